@@ -1,0 +1,55 @@
+-- What the answers of the reader's stages tell: each answer is the image of what was read, and the image is taken back.
+--     row-past, row-refused     a row
+--     list-past, list-refused   a list
+--     ended-more, ended-none    the end of the file
+-- Assumes nothing.
+use mathlib.Core.Path.{_≡_, refl, sym, ap, _∙_}
+use mathlib.Core.List.{List, []}
+use Prim.Native.Nat.{ℕ, _≤_, _<_}
+use borrow.Author.Tests.{lt-ltb, le-ltb}
+use lib.ListN.{length}
+use lib.Seq.{sets}
+use Rattle.numbers.specs.declared.refusals.Refusal.{Refusal}
+use Rattle.numbers.specs.declared.refusals.Refusal.the-variants.{After}
+use Rattle.numbers.specs.Reading.{Out, got, bad}
+use Rattle.numbers.proofs.ReadingLaws.{never}
+use Rattle.files.specs.declared.rows.End.{End}
+use Rattle.files.specs.declared.rows.End.the-variants.{Past, Refused}
+use Rattle.files.specs.declared.rows.RowRead.{RowRead}
+use Rattle.files.specs.declared.rows.ListRead.{ListRead}
+use Rattle.files.specs.File.{flat}
+use Rattle.files.specs.Stages.{rowOf, listOf, ListKept, endAfter}
+
+-- ---- a row
+
+pub row-past : (o : Out (List ℕ)) {a : RowRead} {n : ℕ} → a ≡ rowOf o → a .end ≡ Past n → o ≡ got (a .cells) n
+row-past (got r m) {a} {n} e p =
+    let q : r ≡ a .cells = ap (λ (x : RowRead). x .cells) (sym e) in
+    let z : m ≡ n = same (sym (ap (λ (x : RowRead). x .end) e) ∙ p) in
+    rw (q, z)
+  where
+    same : {k l : ℕ} → Past k ≡ Past l → k ≡ l
+    same i = cc
+row-past (bad x) {a} {n} e p = never (other (sym (ap (λ (x : RowRead). x .end) e) ∙ p))
+  where
+    other : {x : Refusal} {k : ℕ} → Refused x ≡ Past k → _≡_ {A = ℕ} 0 1
+    other i = cc
+
+pub row-refused : (o : Out (List ℕ)) {a : RowRead} {x : Refusal} → a ≡ rowOf o → a .end ≡ Refused x → o ≡ bad x
+row-refused (got r m) {a} {x} e p = never (other (sym (ap (λ (x : RowRead). x .end) e) ∙ p))
+  where
+    other : {x : Refusal} {k : ℕ} → Past k ≡ Refused x → _≡_ {A = ℕ} 0 1
+    other i = cc
+row-refused (bad y) {a} {x} e p = ap bad (same (sym (ap (λ (x : RowRead). x .end) e) ∙ p))
+  where
+    same : {x y : Refusal} → Refused x ≡ Refused y → x ≡ y
+    same i = cc
+
+-- ---- the end of the file
+
+module _ (s : List ℕ) {e : End} {p : ℕ} (q : e ≡ Past p) where
+  pub ended-more : p < length s → Refused (After p) ≡ endAfter e s
+  ended-more h = rw q (simp (lt-ltb _ _ h))
+
+  pub ended-none : length s ≤ p → Past p ≡ endAfter e s
+  ended-none h = rw q (simp (le-ltb _ _ h))

@@ -1,0 +1,46 @@
+-- Two results that a contract allows are equal: for each public function, of its contract as the prover reads it from the source (`Post`).
+-- Every contract here is an equation for the answer and for each memory, so both results equal the same.
+-- Assumes nothing.
+use mathlib.Core.Path.{_≡_, sym, _∙_}
+use mathlib.Core.List.{List}
+use Prim.Native.Nat.{ℕ}
+use contract.Lifetimes.{Lfts}
+use denote.Ref.{now}
+use denote.Triple.Clauses.{AtExit}
+use borrow.Fn.Kinds.{Dens, resT, endedOf}
+use Rattle.files.specs.declared.table.TableRead.{TableRead}
+use Rattle.files.specs.File.{TableIs}
+use Rattle.files.proofs.header.room_of.Reads as room-of
+use Rattle.files.proofs.header.room_of.Kinds as room-of-kinds
+use Rattle.files.proofs.header.read_header.Reads as read-header
+use Rattle.files.proofs.header.read_header.Kinds as read-header-kinds
+use Rattle.files.proofs.table.read_table.Reads as read-table
+use Rattle.files.proofs.table.read_table.Kinds as read-table-kinds
+use Rattle.files.proofs.training.file.Reads as file
+use Rattle.files.proofs.training.file.Kinds as file-kinds
+use Rattle.numbers.proofs.Unique.{same, Fixes}
+
+pub room-of-fixes : Fixes room-of-kinds.ps room-of-kinds.r room-of.Post
+room-of-fixes κs a x x′ s s′ = same
+
+pub read-header-fixes : Fixes read-header-kinds.ps read-header-kinds.r read-header.Post
+read-header-fixes κs a x x′ s s′ = same
+
+pub file-fixes : Fixes file-kinds.ps file-kinds.r file.Post
+file-fixes κs a x x′ s s′ = same
+
+-- the answer of the table reader, and every byte of the four memories
+pub table-is-unique : (s : List ℕ) (r r′ : TableRead) (a b c d a′ b′ c′ d′ a″ b″ c″ d″ : List ℕ)
+    → TableIs s r a b c d a′ b′ c′ d′ → TableIs s r′ a b c d a″ b″ c″ d″ → (r ≡ r′) × (a′ ≡ a″) × (b′ ≡ b″) × (c′ ≡ c″) × (d′ ≡ d″)
+table-is-unique s r r′ a b c d a′ b′ c′ d′ a″ b″ c″ d″ t u =
+    (same (t .answer) (u .answer), same (t .steps) (u .steps), same (t .pushes) (u .pushes), same (t .pops) (u .pops), same (t .errors) (u .errors))
+
+pub read-table-fixes : (κs : Lfts 5) (a : Dens κs read-table-kinds.ps) (x x′ : TableRead)
+    (s s′ : AtExit (endedOf 5 read-table-kinds.ps read-table-kinds.r) κs)
+    → read-table.Post κs a x s → read-table.Post κs a x′ s′
+    → (x ≡ x′)
+    × (now (s .1 .0) ≡ now (s′ .1 .0))
+    × (now (s .1 .1 .0) ≡ now (s′ .1 .1 .0))
+    × (now (s .1 .1 .1 .0) ≡ now (s′ .1 .1 .1 .0))
+    × (now (s .1 .1 .1 .1 .0) ≡ now (s′ .1 .1 .1 .1 .0))
+read-table-fixes κs a x x′ s s′ = table-is-unique _ x x′ _ _ _ _ _ _ _ _ _ _ _ _

@@ -1,0 +1,64 @@
+-- What the reader's private functions answer, stage by stage. Only their contracts cite this file.
+use Prim.Native.Nat.{ℕ, zero, suc}
+use mathlib.Core.Path.{_≡_}
+use mathlib.Core.List.{List, [], _∷_}
+use lib.ListN.{length}
+use lib.Seq.{sets}
+use Rattle.numbers.specs.Reading.{Out, got, bad}
+use Rattle.files.specs.declared.columns.Column.{Column}
+use Rattle.files.specs.declared.rows.End.{End}
+use Rattle.files.specs.declared.rows.End.the-variants.{Past, Refused}
+use Rattle.files.specs.declared.rows.CellRead.{CellRead}
+use Rattle.files.specs.declared.rows.CellRead.the-variants as cell
+use Rattle.files.specs.declared.rows.RowRead.{RowRead}
+use Rattle.files.specs.declared.rows.ListRead.{ListRead}
+use Rattle.files.specs.Rows.{rowAt, listAt}
+use Rattle.files.specs.File.{flat, atEnd}
+
+-- ---- a part of the file, and what comes after it
+
+abbrev pub endOf : {A : Type 0} → Out A → End
+endOf (got a next) = Past next
+endOf (bad r) = Refused r
+
+-- what is read after a part, or the part's refusal
+abbrev pub after : {A : Type 0} → End → (ℕ → Out A) → Out A
+after (Past next) f = f next
+after (Refused r) f = bad r
+
+-- ---- a cell, a row, a list
+
+abbrev pub cellOf : Out ℕ → CellRead
+cellOf (got v next) = cell.Value v next
+cellOf (bad r) = cell.Refused r
+
+abbrev pub noCells : List ℕ
+noCells = 0 ∷ 0 ∷ 0 ∷ 0 ∷ 0 ∷ []
+
+abbrev pub rowOf : Out (List ℕ) → RowRead
+rowOf (got r next) = record { cells = r; end = Past next }
+rowOf (bad x) = record { cells = noCells; end = Refused x }
+
+abbrev pub rowAfter : End → List Column → List ℕ → Out (List ℕ)
+rowAfter e cs s = after e (rowAt cs s)
+
+-- the row before row i; before row 0 there is none
+abbrev pub oldOf : ℕ → List ℕ → List ℕ
+oldOf zero old = []
+oldOf (suc i) old = old
+
+abbrev pub listOf : Out (List (List ℕ)) → ListRead
+listOf (got rs next) = record { count = length rs; end = Past next }
+listOf (bad x) = record { count = 0; end = Refused x }
+
+abbrev pub listAfter : End → ℕ → List Column → List ℕ → Out (List (List ℕ))
+listAfter e most cs s = after e (listAt most cs s)
+
+-- rows that were read stand at the start of their memory; of a refused list's memory only the length is said
+abbrev pub ListKept : Out (List (List ℕ)) → List ℕ → List ℕ → Type 0
+ListKept (got rs next) d d′ = d′ ≡ sets d 0 (flat rs)
+ListKept (bad r) d d′ = length d′ ≡ length d
+
+-- the end of the file after a part of it
+abbrev pub endAfter : End → List ℕ → End
+endAfter e s = endOf (after e (atEnd (tt {0}) s))
