@@ -1,0 +1,26 @@
+-- The theorems about the model, by what they say:
+--   AcceptedMeansSafe  an accepted claim means that no run fails; a safe table's relations are accepted; for another table no claim is
+--   RunsAreHeld        004's Lemma 2: runs are held by every closed set with the start facts; where one is safe, no run meets an error
+--   Least              the least relations are such a set and lie in every one; so what they allow, each such set allows
+--   Positions          facts in range and positions below W are one to one
+--   InRange            derivable facts are in range
+--   Memory             when a memory holds the least relations, that its sum is their number, and when they are over a budget
+--   Unique             the memory, the count, the smallest numbers, the verdict and the finding are determined
+--   Claims             what a claim check finds by looking at marks
+--   Decide             the least relations, the verdict and the finding decided by evaluation, for lists of facts
+--   Tables             the reference tables of document 01, so decided
+-- Lists, Counting, Order and Monotone are what these share.
+pub mod AcceptedMeansSafe
+pub mod RunsAreHeld
+pub mod Least
+pub mod Positions
+pub mod InRange
+pub mod Memory
+pub mod Unique
+pub mod Claims
+pub mod Decide
+pub mod Tables
+pub mod Lists
+pub mod Counting
+pub mod Order
+pub mod Monotone
