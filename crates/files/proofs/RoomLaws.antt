@@ -25,9 +25,9 @@ room-small a b h i = grw (bound, h, i) (le-by-compare _ _ tt)
 
 -- ---- for a sound table
 
-pub W-most : (T : Table) → Sound T → W T ≤ 2360320
+pub W-max : (T : Table) → Sound T → W T ≤ 2360320
 unfolding W room IsLe
-W-most T s =
+W-max T s =
     let n = s .n .1 in
     let g = s .G .1 in
     let l = s .L .1 in

@@ -7,8 +7,6 @@ use Prim.Native.Nat.{ℕ, zero, suc, _+_, _-_, _*_, _/_, _≤_, _<_}
 use native.Mathlib.Nat.{mod-lt, div-add-mod', div-lt-iff-lt-mul}
 use native.Mathlib.Decide.{decLt}
 use native.Mathlib.Omega.{arith}
-use native.Mathlib.Numerals.{bound}
-use native.Mathlib.Bridge.{le-by-compare, IsLe}
 use lib.Arith.{digits-lt, digits-div, digits-mod}
 use Rattle.files.specs.Table.{Table, Sound, W}
 use Rattle.model.specs.Rules.{Fact, G, P, Q}
@@ -136,12 +134,3 @@ module _ {T : Table} (sound : Sound T) where
   -- two positions below W with one fact are one
   pub factAt-inj : {p q : ℕ} → p < W T → q < W T → factAt T p ≡ factAt T q → p ≡ q
   factAt-inj {p} {q} h h′ e = sym (factAt-stands p h .here) ∙ ap (pos T) e ∙ factAt-stands q h′ .here
-
--- a sound table has at most this many positions (01: "at most 2,360,320")
-pub W-max : (T : Table) → Sound T → W T ≤ 2360320
-unfolding W IsLe
-W-max T s =
-    let n = s .n .1 in
-    let g = s .G .1 in
-    let l = s .L .1 in
-    grw (bound, n, g, g, l, l, s .F) (le-by-compare _ _ tt)
