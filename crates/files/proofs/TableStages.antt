@@ -26,8 +26,8 @@ use Rattle.files.specs.declared.table.TableRead.{TableRead}
 use Rattle.files.specs.Table.{Table, stepCells, pushCells, popCells, errorCells, mostSteps, mostPushes, mostPops, mostErrors}
 use Rattle.files.specs.Columns.{stepColumns, pushColumns, popColumns, errorColumns}
 use Rattle.files.specs.Rows.{listAt}
-use Rattle.files.specs.Header.{headerAt, headerReadOf, noHeader}
-use Rattle.files.specs.File.{stepOf, pushOf, popOf, errorOf, tableOf, atEnd, tableAt, headerIn, noCounts, flat, TableIs}
+use Rattle.files.specs.Header.{headerAt, headerReadOf}
+use Rattle.files.specs.File.{stepOf, pushOf, popOf, errorOf, tableOf, atEnd, tableAt, headerIn, tableReadOf, flat, TableIs}
 use Rattle.files.specs.Stages.{endOf, after, listOf, listAfter, ListKept, endAfter}
 use Rattle.files.proofs.RowKinds.{Good, list-good, step-back, push-back, pop-back, error-back, cells-back, map-long}
 use Rattle.files.proofs.TableLaws.{header-fits, TableGot, table-got, header-back}
@@ -136,13 +136,13 @@ module _ {s : List ℕ} {top : HeaderRead} {a b c d : ListRead} {m₁ m₂ m₃ 
   end-refused (got v m) x e = never (cc)
   end-refused (bad y) x e = let q : y ≡ x = cc in rw q
 
-  pub refused : {x : Refusal} {w₁ w₂ w₃ w₄ : List ℕ} → endAfter (d .end) s ≡ Refused x
+  pub refused : {x : Refusal} {r : TableRead} {w₁ w₂ w₃ w₄ : List ℕ} → endAfter (d .end) s ≡ Refused x → r ≡ tableReadOf (bad x)
       → w₁ ≡ replicate (length m₁′) 0 → w₂ ≡ replicate (length m₂′) 0 → w₃ ≡ replicate (length m₃′) 0 → w₄ ≡ replicate (length m₄′) 0
-      → TableIs s (record { header = noHeader; counts = noCounts; outcome = outcome.Refused x }) m₁ m₂ m₃ m₄ w₁ w₂ w₃ w₄
-  refused {x} e z₁ z₂ z₃ z₄ =
+      → TableIs s r m₁ m₂ m₃ m₄ w₁ w₂ w₃ w₄
+  refused {x} e q z₁ z₂ z₃ z₄ =
       let b : tableAt s ≡ bad x = end-refused (tableAt s) x (sym stages-end ∙ e) in
       record {
-        answer = rw b;
+        answer = rw b q;
         steps = rw b (z₁ ∙ rw (stage-long (t .steps)));
         pushes = rw b (z₂ ∙ rw (stage-long (t .pushes)));
         pops = rw b (z₃ ∙ rw (stage-long (t .pops)));

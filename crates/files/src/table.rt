@@ -1,8 +1,8 @@
 // The whole table file, into memory of the caller's: five bytes a row, each list in a memory of its own.
 ghost use mathlib.Core.Path.{_≡_};
-ghost use mathlib.Core.Bool.{true};
 ghost use lib.ListN.{length, replicate};
-ghost use Rattle.files.specs.File.{TableIs};
+ghost use Rattle.numbers.specs.Reading.{bad};
+ghost use Rattle.files.specs.File.{tableReadOf, TableIs};
 ghost use Rattle.files.specs.Stages.{endAfter};
 use crate::columns::error_columns;
 use crate::columns::pop_columns;
@@ -42,6 +42,22 @@ pub struct TableRead {
     pub header: Header,
     pub counts: Counts,
     pub outcome: Outcome,
+}
+
+// A table that is refused.
+fn no_table(refusal: Refusal) -> TableRead
+    ensures { λ r. ⌜ r ≡ tableReadOf (bad refusal) ⌝ }
+{
+    TableRead {
+        header: no_header(),
+        counts: Counts {
+            steps: 0,
+            pushes: 0,
+            pops: 0,
+            errors: 0,
+        },
+        outcome: Outcome::Refused { refusal },
+    }
 }
 
 // The end of the file, which is to follow a part of it.
@@ -112,16 +128,7 @@ pub fn read_table(
             wipe(pushes);
             wipe(pops);
             wipe(errors);
-            TableRead {
-                header: no_header(),
-                counts: Counts {
-                    steps: 0,
-                    pushes: 0,
-                    pops: 0,
-                    errors: 0,
-                },
-                outcome: Outcome::Refused { refusal },
-            }
+            no_table(refusal)
         }
     }
 }

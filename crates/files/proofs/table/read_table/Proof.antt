@@ -87,8 +87,8 @@ wipe-requires-3 c κs = search needs
 wipe-requires-4 : tie.Need-wipe-requires-4
 wipe-requires-4 c κs = search needs
 
-no-header-requires : tie.Need-no-header-requires
-no-header-requires c κs = search needs
+no-table-requires : tie.Need-no-table-requires
+no-table-requires c κs = search needs
 
 returns : tie.Need-returns
 returns c =
@@ -99,10 +99,9 @@ returns-2 : tie.Need-returns-2
 returns-2 c =
     let w : tie.After-wipe = c .before .before .before .before .before .before .before in
     let e : tie.After-end-after = w .before .before .before .before .before in
-    rw (c .no-header .ensures)
-    (refused (staged (e .before)) (sym (e .end-after .ensures) ∙ w .before .before .before .refusal .given .1)
+    refused (staged (e .before)) (sym (e .end-after .ensures) ∙ w .before .before .before .refusal .given .1) (c .no-table .ensures)
     (w .wipe .ensures) (c .before .before .before .before .before .wipe2 .ensures)
-    (c .before .before .before .wipe3 .ensures) (c .before .wipe4 .ensures))
+    (c .before .before .before .wipe3 .ensures) (c .before .wipe4 .ensures)
 
 pub read-table-spec : {M : Type 1} → statement M
 read-table-spec =
@@ -124,6 +123,6 @@ read-table-spec =
     wipe-requires-2
     wipe-requires-3
     wipe-requires-4
-    no-header-requires
+    no-table-requires
     returns
     returns-2)
