@@ -1,0 +1,72 @@
+-- A table's plan gives model's positions: each formula of the document, with pairs for places, is the plan's. Pairs are numbers below
+-- k = G * L, so a fact from the pair j stands a line's step times j from the fact from pair 0.
+-- Assumes nothing.
+use mathlib.Core.Path.{_≡_, refl, ap, _∙_}
+use Prim.Native.Nat.{ℕ, _+_, _*_, _/_, _%_, _<_}
+use native.Mathlib.Nat.{mod-lt, div-add-mod', div-lt-iff-lt-mul}
+use native.Mathlib.Omega.{arith}
+use Rattle.files.specs.Table.{Table, Sound, W, room}
+use Rattle.model.specs.Rules.{G, P, Q}
+use Rattle.model.specs.Positions.{baseP, baseQ, pos}
+use Rattle.files.proofs.RoomLaws.{W-max}
+use Rattle.store.specs.declared.plan.Plan.{Plan}
+use Rattle.store.specs.Plans.{Planned, pAt, qAt, gAt, planOf}
+use Rattle.store.proofs.Places.{small}
+
+module _ (T : Table) where
+  abbrev s : Plan
+  s = planOf T
+
+  abbrev K : ℕ
+  K = T .G * T .L
+
+  pub w-is : s .w ≡ W T
+  unfolding W room
+  w-is = omega arith
+
+  pub pos-g : (t g g′ : ℕ) → pos T (G t g g′) ≡ gAt s t g g′
+  unfolding pos
+  pos-g t g g′ = refl
+
+  pub pos-p : (t a k g l : ℕ) → pos T (P t a k g l) ≡ pAt s t (g * T .L + l) + (a * T .L + k) * K
+  unfolding pos baseP
+  pos-p t a k g l = omega arith
+
+  pub pos-q : (t a k f g l : ℕ) → pos T (Q t a k f g l) ≡ qAt s t f (g * T .L + l) + (a * T .L + k) * (T .F * K)
+  unfolding pos baseQ
+  pos-q t a k f g l = omega arith
+
+  -- a number j is the pair of its two digits
+  pub pair-digits : (j : ℕ) → j / T .L * T .L + j % T .L ≡ j
+  pair-digits j = div-add-mod' j (T .L)
+
+  -- the facts from pair j
+  pub pos-p-from : (t j g l : ℕ) → pos T (P t (j / T .L) (j % T .L) g l) ≡ pAt s t (g * T .L + l) + j * K
+  pos-p-from t j g l = pos-p t _ _ g l ∙ ap (λ z. pAt s t (g * T .L + l) + z * K) (pair-digits j)
+
+  pub pos-q-from : (t j f g l : ℕ) → pos T (Q t (j / T .L) (j % T .L) f g l) ≡ qAt s t f (g * T .L + l) + j * (T .F * K)
+  pos-q-from t j f g l = pos-q t _ _ f g l ∙ ap (λ z. qAt s t f (g * T .L + l) + z * (T .F * K)) (pair-digits j)
+
+  module _ (sound : Sound T) where
+    -- a number below K is a pair
+    pub pair-fits : {j : ℕ} → j < K → (j / T .L < T .G) × (j % T .L < T .L)
+    pair-fits h = (div-lt-iff-lt-mul (sound .L .0) .1 h, mod-lt _ (sound .L .0))
+
+    -- a sound table's plan
+    pub planned : Planned s
+    planned =
+        record {
+          k = refl;
+          p = refl;
+          q = refl;
+          w = refl;
+          n-pos = sound .n .0;
+          g-pos = sound .G .0;
+          l-pos = sound .L .0;
+          n-max = sound .n .1;
+          g-max = sound .G .1;
+          l-max = sound .L .1;
+          f-max = sound .F;
+          k-max = small (T .n) (T .G) (T .L) (T .F) (sound .n .1) (sound .G .1) (sound .L .1) (sound .F) .k;
+          w-max = omega (arith, W-max T sound, w-is);
+        }

@@ -1,0 +1,28 @@
+-- A mark in the lent memory. What stands above speaks of room, Has, marked and Clear alone; only here they are tied to model's mark.
+use mathlib.Core.Path.{_≡_}
+use mathlib.Core.Bool.{Bool, true, false}
+use mathlib.Core.List.{List}
+use Prim.Native.Nat.{ℕ, _<_}
+use lib.ListN.{set, length}
+use Rattle.model.specs.Memory.{mark}
+
+-- how many marks a memory has room for
+abbrev pub room : List ℕ → ℕ
+room m = length m
+
+-- there is a mark at p
+unfoldable pub Has : List ℕ → ℕ → Type 0
+Has m p = mark m p ≡ 1
+
+-- the memory with a mark put at p
+unfoldable pub marked : List ℕ → ℕ → List ℕ
+marked m p = set m p 1
+
+-- no mark anywhere: every byte is 0
+abbrev pub Clear : List ℕ → Type 0
+Clear m = (p : ℕ) → p < room m → mark m p ≡ 0
+
+-- what the answer of a test means
+abbrev pub Is : Type 0 → Bool → Type 0
+Is A true = A
+Is A false = ¬ A

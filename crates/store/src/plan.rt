@@ -1,0 +1,70 @@
+// The plan of a table: its sizes, worked out once, and the only code that computes positions.
+ghost use mathlib.Core.Path.{_≡_};
+ghost use Prim.Native.Nat.{_<_, _≤_};
+ghost use Rattle.store.specs.Plans.{Planned, pair, pAt, qAt, gAt, sized};
+
+// n threads, g shared stores, l local stores, f frames; k pairs of a shared and a local store; p and q, where the P and the Q facts begin;
+// w facts in all.
+pub struct Plan {
+    pub n: usize,
+    pub g: usize,
+    pub l: usize,
+    pub f: usize,
+    pub k: usize,
+    pub p: usize,
+    pub q: usize,
+    pub w: usize,
+}
+
+// The plan of a table with n threads, g shared stores, l local stores and f frames.
+pub fn plan_of(n: usize, g: usize, l: usize, f: usize) -> Plan
+    requires { ⌜ (0 < n) × (n ≤ 4) × (0 < g) × (g ≤ 16) × (0 < l) × (l ≤ 16) × (f ≤ 8) ⌝ }
+    ensures { λ r. ⌜ (r ≡ sized n g l f) × Planned r ⌝ }
+{
+    let k = g * l;
+    let p = n * g * g;
+    let q = p + n * k * k;
+    let w = q + n * k * f * k;
+    Plan {
+        n: n,
+        g: g,
+        l: l,
+        f: f,
+        k: k,
+        p: p,
+        q: q,
+        w: w,
+    }
+}
+
+// The pair of shared store g and local store l.
+pub fn pair_of(s: Plan, g: usize, l: usize) -> usize
+    requires { ⌜ Planned s × (g < s .g) × (l < s .l) ⌝ }
+    ensures { λ r. ⌜ (r ≡ pair s g l) × (r < s .k) ⌝ }
+{
+    g * s.l + l
+}
+
+// Where the P facts of t that end at pair c begin; the one from pair a stands a * k further.
+pub fn p_at(s: Plan, t: usize, c: usize) -> usize
+    requires { ⌜ Planned s × (t < s .n) × (c < s .k) ⌝ }
+    ensures { λ r. ⌜ r ≡ pAt s t c ⌝ }
+{
+    s.p + t * s.k * s.k + c
+}
+
+// Where the Q facts of t with frame f that end at pair c begin; the one from pair a stands a * (f * k) further, f the number of frames.
+pub fn q_at(s: Plan, t: usize, f: usize, c: usize) -> usize
+    requires { ⌜ Planned s × (t < s .n) × (f < s .f) × (c < s .k) ⌝ }
+    ensures { λ r. ⌜ r ≡ qAt s t f c ⌝ }
+{
+    s.q + (t * s.k * s.f + f) * s.k + c
+}
+
+// Where the G fact of t from g to g2 stands.
+pub fn g_at(s: Plan, t: usize, g: usize, g2: usize) -> usize
+    requires { ⌜ Planned s × (t < s .n) × (g < s .g) × (g2 < s .g) ⌝ }
+    ensures { λ r. ⌜ r ≡ gAt s t g g2 ⌝ }
+{
+    (t * s.g + g) * s.g + g2
+}
