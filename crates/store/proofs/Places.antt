@@ -63,10 +63,12 @@ module _ {s : Plan} (h : Planned s) where
       let d = mul-le-mul {n₁ = t * s .k} {n₂ = 1024} {m₂ = 8} (b .0) (h .f-max) in
       (b .0, b .1, d, mul-le-mul {n₁ = t * s .k * s .f} {n₂ = 8192} {m₂ = 256} d (h .k-max))
 
-  pub p-block : {t i j : ℕ} (a : ℕ) → t < s .n → a + s .l ≤ s .k → i < s .k → j < s .l → s .p + t * s .k * s .k + a + i * s .k + j * 1 < s .q
+  pub p-block : {t i j : ℕ} (a : ℕ) → t < s .n → a + s .l ≤ s .k → i < s .k → j < s .l
+      → s .p + t * s .k * s .k + a + i * s .k + j * 1 < s .q
   p-block {j} a x y z u = let v : a + j < s .k = omega arith in omega (arith, digits-lt (digits-lt x z) v, h .q)
 
-  pub q-block : {t i j : ℕ} (a : ℕ) → t < s .n → a + s .l ≤ s .k → i < s .k * s .f → j < s .l → s .q + t * s .k * s .f * s .k + a + i * s .k + j * 1 < s .w
+  pub q-block : {t i j : ℕ} (a : ℕ) → t < s .n → a + s .l ≤ s .k → i < s .k * s .f → j < s .l
+      → s .q + t * s .k * s .f * s .k + a + i * s .k + j * 1 < s .w
   q-block {j} a x y z u = let v : a + j < s .k = omega arith in omega (arith, digits-lt (digits-lt x z) v, h .w)
 
   -- the pairs of one shared store
