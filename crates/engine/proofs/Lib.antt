@@ -1,0 +1,25 @@
+-- The engine's laws, from uses at positions up to what a run comes to:
+--   PassLaws          how passes over sets of uses are put together
+--   Parts             the uses of each rule are among all
+--   RelationPlaces    the rows of facts of a thread are in the memory
+--   Bridge            what joins uses at positions with uses of the rules
+--   BridgeRows        rules 4, 5 and 7
+--   BridgeCalls       rule 6
+--   BridgeGuarantees  rules 2 and 3
+--   UsesAreYields     all rules; what lacks is what is missing
+--   Derivable         a memory that marks derivable facts alone, and how many
+--   StartLaws         the memory with the start facts
+--   RunLaws           the ends of a run
+--   Determined        the answers are determined
+pub mod PassLaws
+pub mod Parts
+pub mod RelationPlaces
+pub mod Bridge
+pub mod BridgeRows
+pub mod BridgeCalls
+pub mod BridgeGuarantees
+pub mod UsesAreYields
+pub mod Derivable
+pub mod StartLaws
+pub mod RunLaws
+pub mod Determined

@@ -1,0 +1,77 @@
+-- The rule of each kind.
+-- Assumes nothing.
+use mathlib.Core.Path.{sym, subst}
+use borrow.Author.Needs.{needs}
+use Rattle.engine.specs.declared.row_rules.Kind.{Kind}
+use Rattle.engine.specs.RuleUses.{KindIn, RowUse}
+use Rattle.engine.proofs.PassLaws.{swept-of}
+use Rattle.engine.proofs.row_rules.row.Statement.{statement}
+use Rattle.engine.proofs.row_rules.row.Tie as tie
+
+enum-told : tie.Need-enum-told
+enum-told c = search needs
+
+step-requires : tie.Need-step-requires
+step-requires c κs =
+    let at = c .before .before .before .before in
+    (at .pre .0, subst (λ (k : Kind). KindIn k (at .args .s) (at .args .r)) (c .before .enum-told .given .1) (at .pre .1), at .pre .2)
+
+same-length : tie.Need-same-length
+same-length c = search needs
+
+returns : tie.Need-returns
+returns c =
+    let last = c .before .before in
+    let a = last .before .before .before .before .before .args in
+    swept-of (λ (k : Kind). RowUse k (a .s) (a .r)) (sym (last .before .before .enum-told .given .1)) (last .step .ensures)
+
+enum-told-2 : tie.Need-enum-told-2
+enum-told-2 c = search needs
+
+push-requires : tie.Need-push-requires
+push-requires c κs =
+    let at = c .before .before .before .before in
+    (at .pre .0, subst (λ (k : Kind). KindIn k (at .args .s) (at .args .r)) (c .before .enum-told2 .given .1) (at .pre .1), at .pre .2)
+
+same-length-2 : tie.Need-same-length-2
+same-length-2 c = search needs
+
+returns-2 : tie.Need-returns-2
+returns-2 c =
+    let last = c .before .before in
+    let a = last .before .before .before .before .before .args in
+    swept-of (λ (k : Kind). RowUse k (a .s) (a .r)) (sym (last .before .before .enum-told2 .given .1)) (last .push .ensures)
+
+enum-told-3 : tie.Need-enum-told-3
+enum-told-3 c = search needs
+
+pop-requires : tie.Need-pop-requires
+pop-requires c κs =
+    let at = c .before .before .before .before in
+    (at .pre .0, subst (λ (k : Kind). KindIn k (at .args .s) (at .args .r)) (c .before .enum-told3 .given .1) (at .pre .1), at .pre .2)
+
+same-length-3 : tie.Need-same-length-3
+same-length-3 c = search needs
+
+returns-3 : tie.Need-returns-3
+returns-3 c =
+    let last = c .before .before in
+    let a = last .before .before .before .before .before .args in
+    swept-of (λ (k : Kind). RowUse k (a .s) (a .r)) (sym (last .before .before .enum-told3 .given .1)) (last .pop .ensures)
+
+pub row-spec : {M : Type 1} → statement M
+row-spec =
+    tie.close
+    (tie.spec
+    enum-told
+    step-requires
+    same-length
+    returns
+    enum-told-2
+    push-requires
+    same-length-2
+    returns-2
+    enum-told-3
+    pop-requires
+    same-length-3
+    returns-3)

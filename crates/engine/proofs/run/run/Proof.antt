@@ -1,0 +1,128 @@
+-- The three ends of a run: more start facts than the budget; none left; nothing lacks.
+-- Assumes nothing.
+use mathlib.Core.Path.{_≡_, ap, _∙_}
+use mathlib.Core.List.{List}
+use Prim.Native.Nat.{ℕ}
+use native.Mathlib.Omega.{arith}
+use borrow.Author.Needs.{needs}
+use Rattle.store.specs.Marking.{room}
+use Rattle.engine.proofs.PassLaws.{puts-le}
+use Rattle.engine.proofs.StartLaws.{begun-room}
+use Rattle.engine.proofs.RunLaws.{over-at-start, over-when-spent, done-when-settled}
+use Rattle.engine.proofs.run.run.Statement.{statement}
+use Rattle.engine.proofs.run.run.Tie as tie
+
+-- where the start facts are marked
+module _ (c : tie.After-start) where
+  abbrev cleared : tie.After-clear
+  cleared = c .before .before .before .before
+
+  abbrev entry : tie.Start
+  entry = cleared .before .before .before .before .before .before .before
+
+  abbrev Z : List ℕ
+  Z = cleared .clear .last .0
+
+  long : room Z ≡ entry .args .s .w
+  long = cleared .clear .kept .0 ∙ entry .pre .2
+
+clear-requires : tie.Need-clear-requires
+clear-requires c κs = search needs
+
+start-requires : tie.Need-start-requires
+start-requires c κs =
+    let at = c .before .before .before in
+    let p = at .before .before .before .before .before .before .before .pre in
+    (p .0 .plan, p .1, omega (arith, at .clear .kept .0, p .2))
+
+sub-started : tie.Need-sub-started
+sub-started c = let at = c .before .before .before in omega (arith, entry at .pre .0 .plan .n-pos)
+
+clear-requires-2 : tie.Need-clear-requires-2
+clear-requires-2 c κs = search needs
+
+same-length : tie.Need-same-length
+same-length c = search needs
+
+returns : tie.Need-returns
+returns c =
+    λ T rows first.
+    let last = c .before .before in
+    let test = last .before .before in
+    let at = test .before .before .before .before in
+    let n = entry at .pre .0 .plan .n-pos in (
+      last .clear2 .ensures,
+      over-at-start rows first (Z at) (long at) (cleared at .clear .ensures) (at .start .ensures) (omega (arith, test .if1 .taken)),
+    )
+
+sub-left : tie.Need-sub-left
+sub-left c = search needs
+
+settle-requires : tie.Need-settle-requires
+settle-requires c κs =
+    let at = c .before .before .before .before .before in
+    let a = entry at .args in (
+      entry at .pre .0,
+      omega (arith, ap room (at .start .ensures), begun-room (a .s) (a .g) (a .locals .now) (a .s .n) (Z at), long at),
+    )
+
+clear-requires-3 : tie.Need-clear-requires-3
+clear-requires-3 c κs = search needs
+
+same-length-2 : tie.Need-same-length-2
+same-length-2 c = search needs
+
+returns-2 : tie.Need-returns-2
+returns-2 c =
+    λ T rows first.
+    let last = c .before .before in
+    let test = last .before .before in
+    let work = test .before .before .before .before in
+    let within = work .before .before in
+    let at = within .before .before .before .before in
+    let n = entry at .pre .0 .plan .n-pos in (
+      last .clear3 .ensures,
+      over-when-spent rows first (Z at) (long at) (cleared at .clear .ensures) (at .start .ensures) (work .settle .ensures)
+          (omega (arith, within .if1 .left)) (test .if2 .taken),
+    )
+
+sub-spare : tie.Need-sub-spare
+sub-spare c = search needs
+
+sub-count : tie.Need-sub-count
+sub-count c = let work = c .before .before .before .before .before in omega (arith, puts-le (work .settle .ensures .puts))
+
+same-length-3 : tie.Need-same-length-3
+same-length-3 c = search needs
+
+returns-3 : tie.Need-returns-3
+returns-3 c =
+    λ T rows first.
+    let work = c .before .before .before .before .before in
+    let within = work .before .before in
+    let at = within .before .before .before .before in
+    let n = entry at .pre .0 .plan .n-pos in
+    let less = puts-le (work .settle .ensures .puts) in
+    let some = c .before .if2 .left in
+    done-when-settled rows first (Z at) (long at) (cleared at .clear .ensures) (at .start .ensures) (work .settle .ensures)
+    (omega (arith, within .if1 .left)) (omega arith) (omega arith)
+
+pub run-spec : {M : Type 1} → statement M
+run-spec =
+    tie.close
+    (tie.spec
+    clear-requires
+    start-requires
+    sub-started
+    clear-requires-2
+    same-length
+    returns
+    sub-left
+    settle-requires
+    clear-requires-3
+    same-length-2
+    returns-2
+    sub-spare
+    sub-count
+    same-length-3
+    returns-3)

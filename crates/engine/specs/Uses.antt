@@ -1,0 +1,48 @@
+-- Sets of uses of rules at positions of a memory: the marks at q and at x give the mark at y. These are numbers alone; no table is in them.
+use mathlib.Core.Path.{_≡_}
+use mathlib.Core.Logic.{_⊎_}
+use mathlib.Core.List.{List}
+use Prim.Native.Nat.{ℕ, _+_, _*_, _<_}
+use Rattle.store.specs.Marking.{Has}
+
+-- a set of uses
+abbrev pub Uses : Type 1
+Uses = ℕ → ℕ → ℕ → Type 0
+
+-- the use of a rule with one premise: it stands for both
+abbrev pub Single : ℕ → ℕ → Uses
+Single x y q x′ y′ = (q ≡ x) × (x′ ≡ x) × (y′ ≡ y)
+
+-- uses with one premise, and p as the other
+abbrev pub With : ℕ → Uses → Uses
+With p U q x y = (q ≡ p) × U x x y
+
+-- uses that are taken only if A
+abbrev pub Under : Type 0 → Uses → Uses
+Under A U q x y = A × U q x y
+
+abbrev pub Either : Uses → Uses → Uses
+Either A B q x y = A q x y ⊎ B q x y
+
+-- the first n sets of a sequence of sets
+pub record Upto (A : ℕ → ℕ → ℕ → ℕ → Type 0) (n q x y : ℕ) : Type 0 where
+  pub k : ℕ
+  pub lt : k < n
+  pub given : A k q x y
+
+-- use j of a line: x + j * dx gives y + j * dy
+abbrev pub Line : ℕ → ℕ → ℕ → ℕ → ℕ → Uses
+Line x dx y dy j = Single (x + j * dx) (y + j * dy)
+
+-- line i of a block, of n uses: they follow one another
+abbrev pub Block : ℕ → ℕ → ℕ → ℕ → ℕ → Uses
+Block x y d n i = Upto (Line (x + i * d) 1 (y + i * d) 1) n
+
+-- a use gives y from marks, and there is no mark at y
+pub record Lacks (U : ℕ → ℕ → ℕ → Type 0) (m : List ℕ) (y : ℕ) : Type 0 where
+  pub q : ℕ
+  pub x : ℕ
+  pub given : U q x y
+  pub has-q : Has m q
+  pub has-x : Has m x
+  pub not : ¬ Has m y

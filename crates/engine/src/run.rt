@@ -1,0 +1,99 @@
+// The least relations of a table in lent memory, within a budget; and the smallest position that a rule gives and that has no mark.
+ghost use mathlib.Core.Path.{_≡_};
+ghost use Prim.Native.Nat.{_≤_};
+ghost use Rattle.files.specs.Table.{Table};
+ghost use Rattle.store.specs.Marking.{room};
+ghost use Rattle.store.specs.Plans.{Planned};
+ghost use Rattle.engine.specs.Given.{Given, StartIn, RowsOf, StartOf};
+ghost use Rattle.engine.specs.Answers.{Ran, Confirmed};
+ghost use Rattle.engine.specs.Starting.{begun};
+use crate::lines::Pass;
+use crate::passes::settle;
+use crate::passes::sweep;
+use store::marks::clear;
+use store::marks::put_mark;
+use store::plan::Plan;
+use store::plan::p_at;
+use store::plan::pair_of;
+use store::rows::RowCounts;
+use store::rows::cell;
+
+// The number of facts, or that there are more than the budget.
+pub enum Answer {
+    Done(usize),
+    Over,
+}
+
+// Rule 1.
+fn start(s: Plan, g: usize, locals: &[u8], mem: &mut [u8])
+    requires { ⌜ Planned s × StartIn s g (now locals) × (s .w ≤ room (now mem)) ⌝ }
+    ensures { λ _. ⌜ now (mem .exit) ≡ begun s g (now (locals .entry)) (s .n) (now (mem .entry)) ⌝ }
+{
+    let n = s.n;
+    let k = s.k;
+    let mut t: usize = 0;
+    while t < n {
+        let c = pair_of(s, g, cell(locals, t));
+        let p = p_at(s, t, c);
+        put_mark(mem, p + c * k);
+        t += 1;
+    }
+}
+
+// Works the least relations out. The memory has room for exactly w marks; whatever it held changes nothing.
+pub fn run(
+    s: Plan,
+    counts: RowCounts,
+    steps: &[u8],
+    pushes: &[u8],
+    pops: &[u8],
+    g: usize,
+    locals: &[u8],
+    mem: &mut [u8],
+    budget: usize,
+) -> Answer
+    requires { ⌜ Given s counts (now steps) (now pushes) (now pops) × StartIn s g (now locals) × (room (now mem) ≡ s .w) ⌝ }
+    ensures { λ r. ⌜ ((T : Table) → RowsOf T s counts (now (steps .entry)) (now (pushes .entry)) (now (pops .entry))
+        → StartOf T g (now (locals .entry)) → Ran T budget r (now (mem .exit))) ⌝ }
+{
+    clear(mem);
+    start(s, g, locals, mem);
+    let started = s.n - 1;
+    if budget <= started {
+        clear(mem);
+        return Answer::Over;
+    }
+    let left = budget - started;
+    let pass = Pass {
+        best: s.w,
+        left: left,
+    };
+    let end = settle(s, counts, steps, pushes, pops, mem, pass);
+    if end.left == 0 {
+        clear(mem);
+        return Answer::Over;
+    }
+    let spare = end.left - 1;
+    let count = budget - spare;
+    Answer::Done(count)
+}
+
+// The smallest position that one use of rules 2 to 7 gives from marked facts and that has no mark, or w if there is none. The memory may mark
+// any facts, and is as before.
+pub fn missing(
+    s: Plan,
+    counts: RowCounts,
+    steps: &[u8],
+    pushes: &[u8],
+    pops: &[u8],
+    mem: &mut [u8],
+) -> usize
+    requires { ⌜ Given s counts (now steps) (now pushes) (now pops) × (s .w ≤ room (now mem)) ⌝ }
+    ensures found { λ r. ⌜ ((T : Table) → RowsOf T s counts (now (steps .entry)) (now (pushes .entry)) (now (pops .entry))
+        → Confirmed T (now (mem .entry)) r) ⌝ }
+    ensures kept { λ _. ⌜ now (mem .exit) ≡ now (mem .entry) ⌝ }
+{
+    let pass = Pass { best: s.w, left: 1 };
+    let r = sweep(s, counts, steps, pushes, pops, mem, false, pass);
+    r.best
+}
