@@ -1,0 +1,4 @@
+// The verdict on a memory of marks, with the smallest witness of an error that the marked facts allow.
+mod cells;
+mod reach;
+pub mod search;
