@@ -1,0 +1,82 @@
+-- Two results of the check that its contract allows, for one file, budget and memory, are equal: the answer with its verdict and witness, and
+-- every byte of the memory. So are two numbers, origins and values of one answer.
+-- Assumes nothing.
+use mathlib.Core.Path.{_≡_, refl, sym, ap, ap₂, _∙_}
+use mathlib.Core.List.{List, _++_}
+use Prim.Native.Nat.{ℕ, _≤_, _<_}
+use native.Mathlib.Omega.{arith}
+use lib.ListN.{length, take, drop, take-append-drop}
+use contract.Lifetimes.{Lfts}
+use denote.Ref.{now}
+use denote.Triple.Clauses.{AtExit}
+use borrow.Fn.Kinds.{Dens, endedOf}
+use Rattle.numbers.specs.declared.refusals.Refusal.{Refusal}
+use Rattle.numbers.specs.Reading.{Out, got, bad}
+use Rattle.numbers.proofs.ReadingLaws.{never}
+use Rattle.numbers.proofs.Unique.{same, Fixes}
+use Rattle.files.specs.Table.{Table, Sound, W}
+use Rattle.files.specs.File.{tableAt}
+use Rattle.files.proofs.TableLaws.{table-sound}
+use Rattle.model.proofs.Unique.{holds-same, fact-count-same}
+use Rattle.engine.proofs.Determined.{exceeds-count}
+use Rattle.verdict.proofs.Answers.{answers-same}
+use Rattle.rules.specs.declared.answer.Answer.{Answer}
+use Rattle.rules.specs.declared.answer.Answer.the-variants.{Done, Refused, Short, Over}
+use Rattle.rules.proofs.answer.reply_of.Reads as reply-of
+use Rattle.rules.proofs.answer.reply_of.Kinds as reply-of-kinds
+use Rattle.rules.proofs.check.check.Reads as check
+use Rattle.rules.proofs.check.check.Kinds as check-kinds
+use Rattle.rules.specs.Checking.{Cleared, Finished, OfTable, short, over, done, Checked, refused, read}
+
+-- ---- a memory by its two parts
+
+parts-same : (w : ℕ) {m m′ : List ℕ} → take w m ≡ take w m′ → drop w m ≡ drop w m′ → m ≡ m′
+parts-same w {m} {m′} e q = sym (take-append-drop w m) ∙ ap₂ (λ (x y : List ℕ). x ++ y) e q ∙ take-append-drop w m′
+
+-- the two results
+abbrev Same : Answer → Answer → List ℕ → List ℕ → Type 0
+Same a b m m′ = (a ≡ b) × (m ≡ m′)
+
+-- ---- one table
+
+module _ {T : Table} (sound : Sound T) {budget : ℕ} where
+  table-same : {m m₁ m₂ : List ℕ} {a b : Answer} → OfTable T budget m a m₁ → OfTable T budget m b m₂ → Same a b m₁ m₂
+  table-same (short l) (short l′) = (refl, refl)
+  table-same (short l) (over h x c) = absurd (omega arith)
+  table-same (short l) (done h f) = absurd (omega arith)
+  table-same (over h x c) (short l) = absurd (omega arith)
+  table-same (over h x c) (over h′ x′ c′) = (refl, parts-same (W T) (c .zeros ∙ sym (c′ .zeros)) (c .rest ∙ sym (c′ .rest)))
+  table-same (over h x c) (done h′ f) = let l = exceeds-count sound x (f .counted) in absurd (omega (arith, f .within))
+  table-same (done h f) (short l) = absurd (omega arith)
+  table-same (done h f) (over h′ x c) = let l = exceeds-count sound x (f .counted) in absurd (omega (arith, f .within))
+  table-same (done h f) (done h′ f′) =
+      let e = fact-count-same T (f .counted) (f′ .counted) in
+      let v = answers-same (f .judged) (f′ .judged) in
+      (λ i. Done (e i) (v i), parts-same (W T) (holds-same (f .relations) (f′ .relations)) (f .rest ∙ sym (f′ .rest)))
+
+-- ---- one file
+
+got-table : {T T′ : Table} {n n′ : ℕ} → got T n ≡ got T′ n′ → T ≡ T′
+got-table e = cc
+
+bad-refusal : {x y : Refusal} → _≡_ {A = Out Table} (bad x) (bad y) → x ≡ y
+bad-refusal e = cc
+
+pub checked-same : {s : List ℕ} {budget : ℕ} {m m₁ m₂ : List ℕ} {a b : Answer}
+    → Checked s budget m a m₁ → Checked s budget m b m₂ → Same a b m₁ m₂
+checked-same (refused e) (refused e′) = (ap Refused (bad-refusal (sym e ∙ e′)), refl)
+checked-same (refused e) (read e′ o) = let q = sym e ∙ e′ in never (cc)
+checked-same (read e o) (refused e′) = let q = sym e ∙ e′ in never (cc)
+checked-same {s} {budget} {m} {a} {b} (read {T} {next} {m′} e o) (read {T = T′} {m′ = m″} e′ o′) =
+    let q : T′ ≡ T = got-table (sym e′ ∙ e) in
+    table-same (table-sound s T next e) o (rw q at o′)
+
+-- ---- the contracts as the prover reads them from the source
+
+pub check-fixes : (κs : Lfts 2) (a : Dens κs check-kinds.ps) (x x′ : Answer)
+    (s s′ : AtExit (endedOf 2 check-kinds.ps check-kinds.r) κs)
+    → check.Post κs a x s → check.Post κs a x′ s′ → Same x x′ (now (s .1 .0)) (now (s′ .1 .0))
+check-fixes κs a x x′ s s′ = checked-same
+
+pub reply-of-fixes : Fixes reply-of-kinds.ps reply-of-kinds.r reply-of.Post
+reply-of-fixes κs a x x′ s s′ = same

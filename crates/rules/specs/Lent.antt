@@ -1,0 +1,25 @@
+-- What the check's private functions are lent: a table's header and counts, and its rows in memory, as the table reader leaves them.
+use mathlib.Core.Path.{_≡_}
+use mathlib.Core.List.{List}
+use Prim.Native.Nat.{ℕ, _*_, _≤_}
+use lib.ListN.{length}
+use lib.Seq.{sets}
+use Rattle.files.specs.declared.header.Header.{Header}
+use Rattle.files.specs.declared.table.Counts.{Counts}
+use Rattle.files.specs.Table.{Table, Sound, mostSteps, mostPushes, mostPops, mostErrors}
+use Rattle.files.specs.File.{headerIn, countsIn, stepBytes, pushBytes, popBytes, errorBytes}
+
+-- bytes stand at the start of a memory that has room for as many rows as its list may have
+pub record Laid (most : ℕ) (bytes mem : List ℕ) : Type 0 where
+  pub before : List ℕ
+  pub room : 5 * most ≤ length before
+  pub is : mem ≡ sets before 0 bytes
+
+pub record Stored (T : Table) (h : Header) (k : Counts) (st pu po er : List ℕ) : Type 0 where
+  pub sound : Sound T
+  pub header : h ≡ headerIn T
+  pub counts : k ≡ countsIn T
+  pub steps : Laid mostSteps (stepBytes T) st
+  pub pushes : Laid mostPushes (pushBytes T) pu
+  pub pops : Laid mostPops (popBytes T) po
+  pub errors : Laid mostErrors (errorBytes T) er
