@@ -1,0 +1,33 @@
+-- The lines that the document prints are those of the definitions, by computation.
+-- Assumes nothing.
+use mathlib.Core.Path.{_≡_, refl}
+use mathlib.Core.List.{[], _∷_, _++_}
+use Rattle.model.specs.Rules.{G, P, Q}
+use Rattle.text.specs.Text.{bytes, digits, decimal, fields, line}
+use Rattle.text.specs.Listing.{factsLine, safeLine, possibleLine, refusedLine, factLine}
+
+-- the recursion table
+recursion : factsLine 5
+    ++ safeLine
+    ++ factLine (G 0 0 1)
+    ++ factLine (P 0 0 0 0 0)
+    ++ factLine (P 0 0 0 1 1)
+    ++ factLine (Q 0 0 0 0 0 0)
+    ++ factLine (Q 0 0 0 0 1 1)
+    ≡ bytes "facts 5\nverdict safe\nG 0 0 1\nP 0 0 0 0 0\nP 0 0 0 1 1\nQ 0 0 0 0 0 0\nQ 0 0 0 0 1 1\n"
+unfolding digits decimal fields line
+recursion = refl
+
+-- the true/false mutex, and empty input
+mutex : possibleLine 0 0 (0 ∷ 6 ∷ []) ≡ bytes "verdict possible 0 0 0 6\n"
+unfolding digits decimal fields line
+mutex = refl
+
+empty-input : refusedLine 1 0 ≡ bytes "refused 1 0\n"
+unfolding digits decimal fields line
+empty-input = refl
+
+-- the largest room, and the largest number of 64 bits
+largest : factsLine 2360320 ++ factsLine 18446744073709551615 ≡ bytes "facts 2360320\nfacts 18446744073709551615\n"
+unfolding digits decimal fields line
+largest = refl

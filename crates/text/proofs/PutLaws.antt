@@ -1,0 +1,56 @@
+-- A text that is put, and then another at the place past it, are their join that is put. So the writers go from left to right, and each
+-- adds its own part: a byte, a word, a number.
+-- Assumes nothing.
+use mathlib.Core.Path.{_≡_, refl, sym, ap, _∙_}
+use mathlib.Core.List.{List, [], _∷_, _++_}
+use Prim.Native.Nat.{ℕ, suc, _+_, _/_, _%_, _≤_, _<_}
+use native.Mathlib.Nat.{add-zero}
+use native.Mathlib.Numerals.{add-one}
+use native.Mathlib.Omega.{arith}
+use lib.ListN.{length, take, getD, set, length-append}
+use lib.Seq.{sets, length-take-le, take-suc, take-all}
+use Rattle.text.specs.Text.{digit, decimal, Written}
+use Rattle.text.specs.Putting.{Put}
+use Rattle.text.proofs.DecimalLaws.{decimal-one, decimal-more}
+
+sets-append : (xs ys d : List ℕ) (at : ℕ) → sets d at (xs ++ ys) ≡ sets (sets d at xs) (at + length xs) ys
+sets-append [] ys d at = rw add-zero
+sets-append (x ∷ xs) ys d at = sets-append xs ys (set d at x) (suc at) ∙ ap (λ i. sets (sets (set d at x) (suc at) xs) i ys) (omega arith)
+
+pub put-none : (at : ℕ) (d : List ℕ) → Put [] at d d at
+put-none at d = record { bytes = refl; next = sym (add-zero at) }
+
+pub put-byte : (b at : ℕ) (d : List ℕ) → Put (b ∷ []) at d (set d at b) (at + 1)
+put-byte b at d = record { bytes = refl; next = refl }
+
+pub put-then : {xs ys d d′ d″ : List ℕ} {at m r : ℕ} → Put xs at d d′ m → Put ys m d′ d″ r → Put (xs ++ ys) at d d″ r
+put-then {xs} {ys} {d} {at} p q =
+    record {
+      bytes = q .bytes ∙ cc (p .bytes, p .next, sets-append xs ys d at);
+      next = omega (arith, p .next, q .next, length-append xs ys);
+    }
+
+-- a text at the start of the buffer
+pub written : {text d d′ : List ℕ} {r : ℕ} → Put text 0 d d′ r → r ≤ length d′ → Written text d d′ r
+written {d′} {r} p h = record { bytes = p .bytes; count = omega arith; room = (h, sym (length-take-le r d′ h)) }
+
+-- one more element, as the loops count
+pub take-more : (l : List ℕ) (i : ℕ) → i < length l → take (i + 1) l ≡ take i l ++ (getD l i 0 ∷ [])
+take-more l i h = rw (add-one, take-suc l i 0 h)
+
+-- a word, byte by byte
+module _ {i : ℕ} {d d′ : List ℕ} (word : List ℕ) (p : Put (take i word) 0 d d′ i) where
+  pub word-more : i < length word → Put (take (i + 1) word) 0 d (set d′ i (getD word i 0)) (i + 1)
+  word-more h = rw (take-more word i h) (put-then p (put-byte _ _ _))
+
+  pub word-all : length word ≤ i → Put word 0 d d′ i
+  word-all h = rw (take-all i word h) at p
+
+-- the last digit of a number
+module _ {v at r : ℕ} {d d′ : List ℕ} where
+  pub put-decimal-one : v < 10 → Put (digit (v % 10) ∷ []) at d d′ r → Put (decimal v) at d d′ r
+  put-decimal-one h p = let e : v % 10 ≡ v = omega arith in rw (decimal-one v h) (rw e at p)
+
+  pub put-decimal-more : {m : ℕ} {d″ : List ℕ} → 10 ≤ v → Put (decimal (v / 10)) at d d″ m → Put (digit (v % 10) ∷ []) m d″ d′ r
+      → Put (decimal v) at d d′ r
+  put-decimal-more h p q = rw (decimal-more v h) (put-then p q)

@@ -1,0 +1,56 @@
+-- Two results that a contract allows are equal, the answer and every byte of the lent buffer: for each public function, of its contract as
+-- the prover reads it from the source (`Post`). Both results are the same text at the start of the same buffer.
+-- Assumes nothing.
+use mathlib.Core.Path.{_≡_, sym, _∙_}
+use mathlib.Core.List.{List}
+use Prim.Native.Nat.{ℕ}
+use contract.Lifetimes.{Lfts}
+use denote.Ref.{now}
+use denote.Triple.Clauses.{AtExit}
+use borrow.Fn.Kinds.{PK, RK, Out, Dens, resT, endedOf}
+use Rattle.text.specs.Text.{Written}
+use Rattle.text.proofs.facts.fact_at.Reads as fact-at
+use Rattle.text.proofs.facts.fact_at.Kinds as fact-at-kinds
+use Rattle.text.proofs.lines.facts_line.Reads as facts-line
+use Rattle.text.proofs.lines.facts_line.Kinds as facts-line-kinds
+use Rattle.text.proofs.lines.safe_line.Reads as safe-line
+use Rattle.text.proofs.lines.safe_line.Kinds as safe-line-kinds
+use Rattle.text.proofs.lines.possible_line.Reads as possible-line
+use Rattle.text.proofs.lines.possible_line.Kinds as possible-line-kinds
+use Rattle.text.proofs.lines.refused_line.Reads as refused-line
+use Rattle.text.proofs.lines.refused_line.Kinds as refused-line-kinds
+use Rattle.text.proofs.lines.fact_line.Reads as fact-line
+use Rattle.text.proofs.lines.fact_line.Kinds as fact-line-kinds
+
+-- ---- the lines
+
+pub written-unique : {text before after after′ : List ℕ} {r r′ : ℕ} → Written text before after r → Written text before after′ r′
+    → (r ≡ r′) × (after ≡ after′)
+written-unique w w′ = (w .count ∙ sym (w′ .count), w .bytes ∙ sym (w′ .bytes))
+
+-- the claim of an `ensures` fixes the result and a buffer
+abbrev Fixes : (ps : List (PK 1)) (r : RK 1) → Out 1 ps r → ((κs : Lfts 1) → AtExit (endedOf 1 ps r) κs → List ℕ) → Type 0
+Fixes ps r Post buffer =
+    (κs : Lfts 1) (a : Dens κs ps) (x x′ : resT r κs .Denot) (s s′ : AtExit (endedOf 1 ps r) κs)
+    → Post κs a x s → Post κs a x′ s′ → (x ≡ x′) × (buffer κs s ≡ buffer κs s′)
+
+pub facts-line-fixes : Fixes facts-line-kinds.ps facts-line-kinds.r facts-line.Post (λ κs s. now (s .1 .0))
+facts-line-fixes κs a x x′ s s′ = written-unique
+
+pub safe-line-fixes : Fixes safe-line-kinds.ps safe-line-kinds.r safe-line.Post (λ κs s. now (s .0))
+safe-line-fixes κs a x x′ s s′ = written-unique
+
+pub possible-line-fixes : Fixes possible-line-kinds.ps possible-line-kinds.r possible-line.Post (λ κs s. now (s .1 .1 .1 .1 .0))
+possible-line-fixes κs a x x′ s s′ = written-unique
+
+pub refused-line-fixes : Fixes refused-line-kinds.ps refused-line-kinds.r refused-line.Post (λ κs s. now (s .1 .1 .0))
+refused-line-fixes κs a x x′ s s′ = written-unique
+
+pub fact-line-fixes : Fixes fact-line-kinds.ps fact-line-kinds.r fact-line.Post (λ κs s. now (s .1 .1 .0))
+fact-line-fixes κs a x x′ s s′ = written-unique
+
+-- ---- the fact at a position
+
+pub fact-at-fixes : (κs : Lfts 0) (a : Dens κs fact-at-kinds.ps) (x x′ : resT fact-at-kinds.r κs .Denot)
+    (s s′ : AtExit (endedOf 0 fact-at-kinds.ps fact-at-kinds.r) κs) → fact-at.Post κs a x s → fact-at.Post κs a x′ s′ → x ≡ x′
+fact-at-fixes κs a x x′ s s′ p q = p ∙ sym q

@@ -1,0 +1,58 @@
+-- `text::words::put_word` meets its contract. The loop's invariant: the first i bytes of the word are put.
+-- Assumes nothing.
+use mathlib.Core.Path.{_≡_, refl}
+use Prim.Native.Nat.{_-_, _≤_}
+use native.Mathlib.Omega.{arith}
+use borrow.Author.Needs.{needs}
+use lib.ListN.{length, take, length-set}
+use Rattle.text.specs.Putting.{Put}
+use Rattle.text.proofs.PutLaws.{put-none, word-more, word-all}
+use Rattle.text.proofs.words.put_word.Statement.{statement}
+use Rattle.text.proofs.words.put_word.Tie as tie
+
+abbrev Inv-loop : tie.InvT-loop
+Inv-loop out₀ word i₀ out i = (i ≤ length word) × (length out ≡ length out₀) × Put (take i word) 0 out₀ out i
+
+abbrev μ-loop : tie.MeasureT-loop
+μ-loop out₀ word i₀ out i = length word - i
+
+loop-holds : tie.Need-loop-holds Inv-loop μ-loop
+loop-holds c = (omega arith, refl, put-none _ _)
+
+shared-slice-read-out : tie.Need-shared-slice-read-out Inv-loop μ-loop
+shared-slice-read-out c = search needs
+
+slice-write-out : tie.Need-slice-write-out Inv-loop μ-loop
+slice-write-out c = omega arith
+
+add-i : tie.Need-add-i Inv-loop μ-loop
+add-i c = search needs
+
+loop-less : tie.Need-loop-less Inv-loop μ-loop
+loop-less c = search needs
+
+loop-again : tie.Need-loop-again Inv-loop μ-loop
+loop-again c =
+    let now = c .before .before .loop in
+    (omega arith, simp length-set (now .inv .1), word-more _ (now .inv .2) (omega arith))
+
+same-length : tie.Need-same-length Inv-loop μ-loop
+same-length c = search needs
+
+returns : tie.Need-returns Inv-loop μ-loop
+returns c = word-all _ (c .before .loop .inv .2) (omega arith)
+
+pub put-word-spec : {M : Type 1} → statement M
+put-word-spec =
+    tie.close
+    (tie.spec
+    Inv-loop
+    μ-loop
+    loop-holds
+    shared-slice-read-out
+    slice-write-out
+    add-i
+    loop-less
+    loop-again
+    same-length
+    returns)

@@ -1,0 +1,26 @@
+-- The lines of the listing, to the letter (document 01, "Reference tables and results").
+use mathlib.Core.List.{List, [], _∷_}
+use Prim.Native.Nat.{ℕ}
+use Rattle.model.specs.Rules.{Fact, G, P, Q}
+use Rattle.text.specs.Text.{bytes, line}
+
+-- "facts 5"
+abbrev pub factsLine : ℕ → List ℕ
+factsLine count = line (bytes "facts") (count ∷ [])
+
+abbrev pub safeLine : List ℕ
+safeLine = line (bytes "verdict safe") []
+
+-- "row, g and the locals from thread 0", as "verdict possible 0 0 0 6"
+abbrev pub possibleLine : ℕ → ℕ → List ℕ → List ℕ
+possibleLine row g locals = line (bytes "verdict possible") (row ∷ g ∷ locals)
+
+-- "with number and value", as "refused 1 0"
+abbrev pub refusedLine : ℕ → ℕ → List ℕ
+refusedLine number value = line (bytes "refused") (number ∷ value ∷ [])
+
+-- "fields in the order of the facts", as "G 0 0 1"
+abbrev pub factLine : Fact → List ℕ
+factLine (G t g g′) = line (bytes "G") (t ∷ g ∷ g′ ∷ [])
+factLine (P t g l g′ l′) = line (bytes "P") (t ∷ g ∷ l ∷ g′ ∷ l′ ∷ [])
+factLine (Q t g l f g′ l′) = line (bytes "Q") (t ∷ g ∷ l ∷ f ∷ g′ ∷ l′ ∷ [])

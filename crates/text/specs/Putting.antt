@@ -1,0 +1,15 @@
+-- What the private functions promise: a text is put at a place of a buffer. Only they cite this.
+use mathlib.Core.Path.{_≡_}
+use mathlib.Core.List.{List}
+use Prim.Native.Nat.{ℕ, _+_}
+use lib.ListN.{length}
+use lib.Seq.{sets}
+
+-- `after` is `before` with the text from `at` on, and r is the place past it
+pub record Put (text : List ℕ) (at : ℕ) (before after : List ℕ) (r : ℕ) : Type 0 where
+  pub bytes : after ≡ sets before at text
+  pub next : r ≡ at + length text
+
+-- a blank and a number of 64 bits, which has at most 20 digits
+abbrev pub fieldRoom : ℕ
+fieldRoom = 21

@@ -1,0 +1,5 @@
+// The text of the listing (document 01, "Reference tables and results"): its lines, each written into a buffer that the caller lends.
+mod decimal;
+pub mod facts;
+pub mod lines;
+mod words;

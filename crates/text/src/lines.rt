@@ -1,0 +1,98 @@
+// The lines of the listing.
+ghost use Prim.Native.Nat.{_+_, _*_, _<_, _≤_, min};
+ghost use mathlib.Core.Path.{_≡_};
+ghost use lib.ListN.{length, take};
+ghost use Rattle.store.specs.Plans.{Planned};
+ghost use Rattle.text.specs.Text.{field, line, Written};
+ghost use Rattle.text.specs.Listing.{factsLine, safeLine, possibleLine, refusedLine, factLine};
+ghost use Rattle.text.specs.Facts.{planFact};
+ghost use Rattle.text.specs.Putting.{Put, fieldRoom};
+use crate::decimal::put_decimal;
+use crate::facts::FactFields;
+use crate::facts::fact_at;
+use crate::words::put_byte;
+use crate::words::put_word;
+use store::plan::Plan;
+
+// The room for a line. The longest has a word of 16 bytes, six numbers of at most 20 digits with a blank before each, and the line feed.
+pub const ROOM: usize = 160;
+
+// Puts a blank and v from `at` on, and gives the place past them.
+fn put_field(out: &mut [u8], at: usize, v: usize) -> usize
+    requires { ⌜ at + fieldRoom ≤ length (now out) ⌝ }
+    ensures { λ r. ⌜ Put (field v) at (now (out .entry)) (now (out .exit)) r × (r ≤ at + fieldRoom) ⌝ }
+{
+    let next = put_byte(out, at, b' ');
+    put_decimal(out, next, v)
+}
+
+// Writes a word, the numbers and a line feed.
+fn put_line(out: &mut [u8], word: &[u8], numbers: &[usize]) -> usize
+    requires { ⌜ length (now word) + fieldRoom * length (now numbers) + 1 ≤ length (now out) ⌝ }
+    ensures { λ r. ⌜ Written (line (now (word .entry)) (now (numbers .entry))) (now (out .entry)) (now (out .exit)) r ⌝ }
+{
+    let mut at = put_word(out, word);
+    for i in 0..numbers.len() {
+        at = put_field(out, at, numbers[i]);
+    }
+    put_byte(out, at, b'\n')
+}
+
+// The line of the number of facts.
+pub fn facts_line(count: usize, out: &mut [u8; ROOM]) -> usize
+    ensures { λ r. ⌜ Written (factsLine count) (now (out .entry)) (now (out .exit)) r ⌝ }
+{
+    put_line(out, b"facts", &[count])
+}
+
+// The line of the verdict "safe".
+pub fn safe_line(out: &mut [u8; ROOM]) -> usize
+    ensures { λ r. ⌜ Written safeLine (now (out .entry)) (now (out .exit)) r ⌝ }
+{
+    put_line(out, b"verdict safe", &[])
+}
+
+// n, or 4 if that is less.
+fn at_most_four(n: usize) -> usize
+    ensures { λ r. ⌜ r ≡ min n 4 ⌝ }
+{
+    if n < 4 { n } else { 4 }
+}
+
+// The line of the verdict "possible", with the witness: its row, its shared store, and the local stores of the first n threads.
+pub fn possible_line(
+    row: usize,
+    g: usize,
+    locals: [usize; 4],
+    n: usize,
+    out: &mut [u8; ROOM],
+) -> usize
+    ensures { λ r. ⌜ Written (possibleLine row g (take n locals)) (now (out .entry)) (now (out .exit)) r ⌝ }
+{
+    let l0 = locals[0];
+    let l1 = locals[1];
+    let l2 = locals[2];
+    let l3 = locals[3];
+    let numbers = [row, g, l0, l1, l2, l3];
+    let count = 2 + at_most_four(n);
+    put_line(out, b"verdict possible", &numbers[..count])
+}
+
+// The line of a refusal, with its number and its value.
+pub fn refused_line(number: usize, value: usize, out: &mut [u8; ROOM]) -> usize
+    ensures { λ r. ⌜ Written (refusedLine number value) (now (out .entry)) (now (out .exit)) r ⌝ }
+{
+    put_line(out, b"refused", &[number, value])
+}
+
+// The line of the fact at position p.
+pub fn fact_line(s: Plan, p: usize, out: &mut [u8; ROOM]) -> usize
+    requires { ⌜ Planned s × (p < s .w) ⌝ }
+    ensures { λ r. ⌜ Written (factLine (planFact s p)) (now (out .entry)) (now (out .exit)) r ⌝ }
+{
+    match fact_at(s, p) {
+        FactFields::G { t, g, g2 } => put_line(out, b"G", &[t, g, g2]),
+        FactFields::P { t, g, l, g2, l2 } => put_line(out, b"P", &[t, g, l, g2, l2]),
+        FactFields::Q { t, g, l, f, g2, l2 } => put_line(out, b"Q", &[t, g, l, f, g2, l2]),
+    }
+}

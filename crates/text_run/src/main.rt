@@ -1,0 +1,107 @@
+// Prints lines of every kind of the listing, at the borders of their numbers and positions.
+ghost use Rattle.store.specs.Plans.{Planned};
+use libc::STDOUT_FILENO;
+use store::plan::Plan;
+use store::plan::plan_of;
+use text::lines::ROOM;
+use text::lines::fact_line;
+use text::lines::facts_line;
+use text::lines::possible_line;
+use text::lines::refused_line;
+use text::lines::safe_line;
+
+fn facts(count: usize) {
+    let mut line = [0u8; ROOM];
+    let n = facts_line(count, &mut line);
+    io::write_all(STDOUT_FILENO, &line[..n]);
+}
+
+fn safe() {
+    let mut line = [0u8; ROOM];
+    let n = safe_line(&mut line);
+    io::write_all(STDOUT_FILENO, &line[..n]);
+}
+
+fn possible(row: usize, g: usize, locals: [usize; 4], threads: usize) {
+    let mut line = [0u8; ROOM];
+    let n = possible_line(row, g, locals, threads, &mut line);
+    io::write_all(STDOUT_FILENO, &line[..n]);
+}
+
+fn refused(number: usize, value: usize) {
+    let mut line = [0u8; ROOM];
+    let n = refused_line(number, value, &mut line);
+    io::write_all(STDOUT_FILENO, &line[..n]);
+}
+
+// The fact at p, where there is one.
+fn fact(s: Plan, p: usize)
+    requires { ⌜ Planned s ⌝ }
+{
+    if p < s.w {
+        let mut line = [0u8; ROOM];
+        let n = fact_line(s, p, &mut line);
+        io::write_all(STDOUT_FILENO, &line[..n]);
+    }
+}
+
+// Numbers of one digit and more, up to the largest.
+fn numbers() {
+    facts(0);
+    facts(9);
+    facts(10);
+    facts(65536);
+    facts(2360320);
+    facts(18446744073709551615);
+}
+
+// Witnesses of one to four threads; of five threads there are no more than four local stores. The last line is the longest.
+fn witnesses() {
+    possible(1, 2, [3, 4, 5, 6], 1);
+    possible(0, 0, [0, 6, 0, 0], 2);
+    possible(1, 2, [3, 4, 5, 6], 3);
+    possible(64, 15, [15, 0, 9, 10], 4);
+    possible(1, 2, [3, 4, 5, 6], 5);
+    let m = 18446744073709551615;
+    possible(m, m, [m, m, m, m], 4);
+}
+
+// The facts of the recursion table.
+fn recursion() {
+    let s = plan_of(1, 2, 2, 1);
+    fact(s, 1);
+    fact(s, 4);
+    fact(s, 7);
+    fact(s, 20);
+    fact(s, 23);
+}
+
+// The first and the last fact of each kind at the limits.
+fn limits() {
+    let s = plan_of(4, 16, 16, 8);
+    fact(s, 0);
+    fact(s, 1023);
+    fact(s, 1024);
+    fact(s, 263167);
+    fact(s, 263168);
+    fact(s, 2360319);
+}
+
+// Facts with no two fields alike, where no two sizes are alike.
+fn mixed() {
+    let s = plan_of(3, 5, 7, 2);
+    fact(s, 69);
+    fact(s, 3413);
+    fact(s, 10440);
+}
+
+fn main() {
+    numbers();
+    safe();
+    witnesses();
+    refused(1, 0);
+    refused(7, 2360320);
+    recursion();
+    limits();
+    mixed();
+}
