@@ -2,14 +2,18 @@
 -- Assumes nothing.
 use mathlib.Core.Path.{_≡_}
 use mathlib.Core.List.{List}
-use Prim.Native.Nat.{ℕ}
+use Prim.Native.Nat.{ℕ, _<_}
 use Rattle.files.specs.Table.{Table}
 use Rattle.model.specs.Rules.{Fact, Yields}
 use Rattle.model.specs.Positions.{Fits, pos}
 use Rattle.model.specs.Memory.{Marked}
 use Rattle.store.specs.Marking.{Has}
 use Rattle.store.proofs.MarkLaws.{marked-has}
-use Rattle.engine.specs.Uses.{Uses}
+use Rattle.engine.specs.Uses.{Uses, Upto}
+
+-- a use of set j of a sequence
+pub upto-at : {A : ℕ → Uses} {n q x y : ℕ} (j : ℕ) → j < n → A j q x y → Upto A n q x y
+upto-at j l u = record { k = j; lt = l; given = u }
 
 -- a fact that one use of a rule yields from the marked ones stands at y
 pub record Yielded (T : Table) (m : List ℕ) (y : ℕ) : Type 0 where

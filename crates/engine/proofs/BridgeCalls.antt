@@ -19,7 +19,7 @@ use Rattle.store.proofs.Places.{called}
 use Rattle.store.proofs.PlanIsModel.{pos-p, pos-q, pos-p-from, pos-q-from, pair-digits, pair-fits, planned}
 use Rattle.engine.specs.Uses.{Upto}
 use Rattle.engine.specs.RuleUses.{qCount, CallUse}
-use Rattle.engine.proofs.Bridge.{Yielded, Used}
+use Rattle.engine.proofs.Bridge.{upto-at, Yielded, Used}
 
 module _ (T : Table) (sound : Sound T) (m : List ℕ) where
   abbrev s : Plan
@@ -46,18 +46,11 @@ module _ (T : Table) (sound : Sound T) (m : List ℕ) where
       record {
         q = _;
         x = _;
-        given = record {
-          k = i;
-          lt = digits-lt (digits-lt (digits-lt (x .0) A) (x .3)) C;
-          given = (
-            pos-q T t a b f g l ∙ omega arith,
-            record {
-              k = j;
-              lt = digits-lt (hp .fits .3) (hp .fits .4);
-              given = (e, e, pos-q T t a b f g′ l′ ∙ omega arith ∙ ap (λ z. s .q + z * K + j * 1) (sym row-is));
-            },
-          );
-        };
+        given = upto-at i (digits-lt (digits-lt (digits-lt (x .0) A) (x .3)) C) (
+          pos-q T t a b f g l ∙ omega arith,
+          upto-at j (digits-lt (hp .fits .3) (hp .fits .4))
+              (e, e, pos-q T t a b f g′ l′ ∙ omega arith ∙ ap (λ z. s .q + z * K + j * 1) (sym row-is)),
+        );
         has-q = marked-has hq;
         has-x = marked-has hp;
       }

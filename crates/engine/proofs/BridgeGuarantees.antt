@@ -21,7 +21,7 @@ use Rattle.engine.specs.declared.guarantees.Relation.{Relation}
 use Rattle.engine.specs.declared.guarantees.Relation.the-variants.{P as InP, Q as InQ}
 use Rattle.engine.specs.Uses.{Upto, Block}
 use Rattle.engine.specs.RuleUses.{firstAt, rowsIn, GuaranteeUse}
-use Rattle.engine.proofs.Bridge.{Yielded, Used}
+use Rattle.engine.proofs.Bridge.{upto-at, Yielded, Used}
 
 module _ (T : Table) (sound : Sound T) where
   abbrev s : Plan
@@ -57,25 +57,13 @@ module _ (T : Table) (sound : Sound T) where
         record {
           q = _;
           x = _;
-          given = record {
-            k = number;
-            lt = digits-lt (digits-lt a b) c;
-            given = (
-              pos-g T e g g′,
-              record {
-                k = t;
-                lt = th;
-                given = (
-                  λ same. other (sym (same ∙ d .0)),
-                  record {
-                    k = i;
-                    lt = ih;
-                    given = record { k = l; lt = lh; given = (ex′, ex′, ey ∙ ap (λ z. inRow rel t i z l) (sym (d .2))) };
-                  },
-                );
-              },
-            );
-          };
+          given = upto-at number (digits-lt (digits-lt a b) c) (
+            pos-g T e g g′,
+            upto-at t th (
+              λ same. other (sym (same ∙ d .0)),
+              upto-at i ih (upto-at l lh (ex′, ex′, ey ∙ ap (λ z. inRow rel t i z l) (sym (d .2)))),
+            ),
+          );
           has-q = marked-has guarantee;
           has-x = h;
         }

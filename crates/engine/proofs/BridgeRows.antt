@@ -19,7 +19,7 @@ use Rattle.store.proofs.MarkLaws.{has-marked}
 use Rattle.store.proofs.PlanIsModel.{pos-g, pos-p, pos-q, pos-p-from, pos-q-from, pair-fits}
 use Rattle.engine.specs.declared.row_rules.Kind.the-variants.{Step as Stepping, Push as Pushing, Pop as Popping}
 use Rattle.engine.specs.RuleUses.{StepUse, PushUse, RowUses}
-use Rattle.engine.proofs.Bridge.{Yielded, Used, used-from}
+use Rattle.engine.proofs.Bridge.{upto-at, Yielded, Used, used-from}
 
 module _ (T : Table) (sound : Sound T) (n : ℕ) (rows : List ℕ) (m : List ℕ) where
   abbrev s : Plan
@@ -44,11 +44,10 @@ module _ (T : Table) (sound : Sound T) (n : ℕ) (rows : List ℕ) (m : List ℕ
     step-gives a b i lt h =
         let r = rowOf rows i in
         let j = a * T .L + b in
-        let e = pos-p T (r .t) a b (r .g) (r .l) in
-        let jt = digits-lt (h .fits .1) (h .fits .2) in (
-          used-from h (record { k = i; lt = lt; given = inl (record { k = j; lt = jt; given = (e, e, pos-p T (r .t) a b (r .u) (r .v)) }) }),
-          used-from h
-              (record { k = i; lt = lt; given = inr (record { k = j; lt = jt; given = (e, e, pos-g T (r .t) (r .g) (r .u) ∙ omega arith) }) }),
+        let jt = digits-lt (h .fits .1) (h .fits .2) in
+        let e = pos-p T (r .t) a b (r .g) (r .l) in (
+          used-from h (upto-at i lt (inl (upto-at j jt (e, e, pos-p T (r .t) a b (r .u) (r .v))))),
+          used-from h (upto-at i lt (inr (upto-at j jt (e, e, pos-g T (r .t) (r .g) (r .u) ∙ omega arith)))),
         )
 
     pub step-used : (a b : ℕ) (z : Step) → List·Memᴰ z (T .steps) → StepGives a b z
@@ -95,16 +94,10 @@ module _ (T : Table) (sound : Sound T) (n : ℕ) (rows : List ℕ) (m : List ℕ
     push-gives a b i lt h =
         let r = rowOf rows i in
         let j = a * T .L + b in
-        let e = pos-p T (r .t) a b (r .g) (r .l) in
-        let jt = digits-lt (h .fits .1) (h .fits .2) in (
-          used-from h
-              (record { k = i; lt = lt; given = inl (record { k = j; lt = jt; given = (e, e, pos-q T (r .t) a b (r .v) (r .g) (r .u)) }) }),
-          used-from h
-              (record {
-                k = i;
-                lt = lt;
-                given = inr (record { k = j; lt = jt; given = (e, e, pos-p T (r .t) (r .g) (r .u) (r .g) (r .u) ∙ omega arith) });
-              }),
+        let jt = digits-lt (h .fits .1) (h .fits .2) in
+        let e = pos-p T (r .t) a b (r .g) (r .l) in (
+          used-from h (upto-at i lt (inl (upto-at j jt (e, e, pos-q T (r .t) a b (r .v) (r .g) (r .u))))),
+          used-from h (upto-at i lt (inr (upto-at j jt (e, e, pos-p T (r .t) (r .g) (r .u) (r .g) (r .u) ∙ omega arith)))),
         )
 
     pub push-used : (a b : ℕ) (z : Push) → List·Memᴰ z (T .pushes) → PushGives a b z
@@ -149,11 +142,7 @@ module _ (T : Table) (sound : Sound T) (n : ℕ) (rows : List ℕ) (m : List ℕ
         let r = rowOf rows i in
         let e = pos-q T (r .t) a b (r .u) (r .g) (r .l) in
         used-from h
-        (record {
-          k = i;
-          lt = lt;
-          given = record { k = a * T .L + b; lt = digits-lt (h .fits .1) (h .fits .2); given = (e, e, pos-p T (r .t) a b (r .g) (r .v)) };
-        })
+        (upto-at i lt (upto-at (a * T .L + b) (digits-lt (h .fits .1) (h .fits .2)) (e, e, pos-p T (r .t) a b (r .g) (r .v))))
 
     pub pop-used : (a b : ℕ) (z : Pop) → List·Memᴰ z (T .pops) → PopGives a b z
     pop-used a b z mem = let nth = same .fro z mem in subst (PopGives a b) (nth .here) (pop-gives a b (nth .i) (nth .lt))

@@ -1,4 +1,5 @@
 -- The engine's laws, from uses at positions up to what a run comes to:
+--   GivenLaws         what is given of a sound table is in range
 --   PassLaws          how passes over sets of uses are put together
 --   Parts             the uses of each rule are among all
 --   RelationPlaces    the rows of facts of a thread are in the memory
@@ -11,6 +12,7 @@
 --   StartLaws         the memory with the start facts
 --   RunLaws           the ends of a run
 --   Determined        the answers are determined
+pub mod GivenLaws
 pub mod PassLaws
 pub mod Parts
 pub mod RelationPlaces

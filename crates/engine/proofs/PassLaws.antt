@@ -107,12 +107,11 @@ module _ {U : Uses} where
   swept-none {b} true e = puts {b = b} {r = b} puts-idle (λ h. absurd (omega arith))
   swept-none {b} false e = looks (looked-idle {b = b} (λ h. absurd (omega arith)))
 
-  pub swept-puts : {put : Bool} {b r : Pass} {m m′ : List ℕ} → put ≡ true → Swept U put b r m m′ → Puts U b r m m′
-  swept-puts e (looks k) = let z : _≡_ {A = ℕ} 0 1 = cc in absurd (omega arith)
-  swept-puts e (puts p done) = p
+  pub swept-puts : {b r : Pass} {m m′ : List ℕ} → Swept U true b r m m′ → Puts U b r m m′
+  swept-puts (puts p done) = p
 
   pub swept-le : {b r : Pass} {m m′ : List ℕ} → Swept U true b r m m′ → r .left ≤ b .left
-  swept-le s = puts-le (swept-puts refl s)
+  swept-le s = puts-le (swept-puts s)
 
   -- a pass that put nothing ends the work
   pub settled : {b r s : Pass} {m m₁ m₂ : List ℕ} → Puts U b r m m₁ → Swept U true r s m₁ m₂ → s .left ≡ r .left → Settled U b s m m₂
@@ -125,7 +124,7 @@ module _ {U : Uses} where
 -- a pass over some of the uses, after what was put
 pub puts-swept : {A U : Uses} (part : (q x y : ℕ) → A q x y → U q x y) {b r s : Pass} {m m₁ m₂ : List ℕ} → Puts U b r m m₁
     → Swept A true r s m₁ m₂ → Puts U b s m m₂
-puts-swept part p s = puts-then p (puts-to part (swept-puts refl s))
+puts-swept part p s = puts-then p (puts-to part (swept-puts s))
 
 -- ---- one pass, then another
 

@@ -11,7 +11,7 @@ use Rattle.store.specs.declared.rows.RowCounts.{RowCounts}
 use Rattle.store.specs.Plans.{Planned, planOf}
 use Rattle.store.specs.Reading.{rowOf, Reads}
 
--- every number of a row is in its range; a and b are the bounds of its last two, which each kind has its own
+-- every number of a row is in its range; a and b bound the last two, whose columns differ by kind
 pub record RowIn (s : Plan) (a b : ℕ) (r : Row) : Type 0 where
   pub t : r .t < s .n
   pub g : r .g < s .g
@@ -37,13 +37,13 @@ pub record StartIn (s : Plan) (g₀ : ℕ) (locals : List ℕ) : Type 0 where
   pub shared : g₀ < s .g
   pub local : (t : ℕ) → t < s .n → getD locals t 0 < s .l
 
--- what is given is a sound table's: the plan and the rows
+-- the plan and the rows are a sound table's
 pub record RowsOf (T : Table) (s : Plan) (n : RowCounts) (st pu po : List ℕ) : Type 0 where
   pub sound : Sound T
   pub plan : s ≡ planOf T
   pub reads : Reads T n st pu po
 
--- the initial stores
+-- and the initial stores are the table's
 pub record StartOf (T : Table) (g₀ : ℕ) (locals : List ℕ) : Type 0 where
   pub shared : T .g₀ ≡ g₀
   pub local : (t : ℕ) → t < T .n → begins T t ≡ getD locals t 0

@@ -10,7 +10,7 @@ use Rattle.store.specs.Marking.{room, marked}
 use Rattle.engine.specs.declared.lines.Pass.{Pass}
 use Rattle.engine.specs.Uses.{Lacks}
 
--- uses put so many marks, one after the other
+-- uses put so many marks, one after the other, each where it lacked
 pub data Grew (U : ℕ → ℕ → ℕ → Type 0) (m : List ℕ) : ℕ → List ℕ → Type 0 where
   none : Grew U m 0 m
   more : {k : ℕ} {m′ : List ℕ} (y : ℕ) → Grew U m k m′ → y < room m′ → Lacks U m′ y → Grew U m (suc k) (marked m′ y)
@@ -29,7 +29,7 @@ pub record Looked (U : ℕ → ℕ → ℕ → Type 0) (b r : Pass) (m : List �
   pub first : (r .best ≡ b .best) ⊎ Lacks U m (r .best)
   pub le : r .best ≤ b .best
 
--- a pass that puts, and put nothing though it might have: nothing lacks
+-- what a pass does: one that looks leaves the memory as it is; one that puts, and put nothing though some were left, found nothing lacking
 pub data Swept (U : ℕ → ℕ → ℕ → Type 0) : Bool → Pass → Pass → List ℕ → List ℕ → Type 0 where
   looks : {b r : Pass} {m : List ℕ} → Looked U b r m → Swept U false b r m m
   puts : {b r : Pass} {m m′ : List ℕ} → Puts U b r m m′ → (0 < r .left → r .left ≡ b .left → (y : ℕ) → ¬ Lacks U m y)

@@ -31,8 +31,8 @@ fn step(s: Plan, r: Row, mem: &mut [u8], put: bool, pass: Pass) -> Pass
     let x = p_at(s, r.t, pair_of(s, r.g, r.l));
     let y = p_at(s, r.t, pair_of(s, r.u, r.v));
     let z = g_at(s, r.t, r.g, r.u);
-    let sofar = line(mem, put, pass, x, k, y, k, k);
-    line(mem, put, sofar, x, k, z, 0, k)
+    let stepped = line(mem, put, pass, x, k, y, k, k);
+    line(mem, put, stepped, x, k, z, 0, k)
 }
 
 // Rule 5 for one row.
@@ -45,8 +45,8 @@ fn push(s: Plan, r: Row, mem: &mut [u8], put: bool, pass: Pass) -> Pass
     let d = pair_of(s, r.g, r.u);
     let y = q_at(s, r.t, r.v, d);
     let z = p_at(s, r.t, d) + d * k;
-    let sofar = line(mem, put, pass, x, k, y, s.f * k, k);
-    line(mem, put, sofar, x, k, z, 0, k)
+    let pushed = line(mem, put, pass, x, k, y, s.f * k, k);
+    line(mem, put, pushed, x, k, z, 0, k)
 }
 
 // Rule 7 for one row.

@@ -1,7 +1,6 @@
 -- Rule 6 for the Q fact, or nothing.
 -- Assumes nothing.
 use Prim.Native.Nat.{_+_, _*_, _/_, _%_, _<_, _≤_}
-use mathlib.Core.Path.{refl}
 use native.Mathlib.Omega.{arith}
 use borrow.Author.Needs.{needs}
 use Rattle.store.proofs.Places.{p-line, parts, ck-small, Called, called}
@@ -75,7 +74,7 @@ same-length-3 : tie.Need-same-length-3
 same-length-3 c = search needs
 
 returns-3 : tie.Need-returns-3
-returns-3 c = swept-puts refl (c .before .before .call .ensures)
+returns-3 c = swept-puts (c .before .before .call .ensures)
 
 pub entered-spec : {M : Type 1} → statement M
 entered-spec =

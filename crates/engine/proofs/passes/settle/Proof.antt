@@ -1,7 +1,7 @@
 -- What was put so far was put by uses of the rules. The pass over every use at the end of a turn puts something, so fewer are left, or puts
 -- nothing, and then nothing lacks.
 -- Assumes nothing.
-use mathlib.Core.Path.{refl, _∙_}
+use mathlib.Core.Path.{_∙_}
 use native.Mathlib.Omega.{arith}
 use Rattle.engine.specs.Passing.{Puts}
 use Rattle.engine.specs.RuleUses.{AllUses}
@@ -74,7 +74,7 @@ loop-less c =
 loop-again : tie.Need-loop-again Inv-loop μ-loop
 loop-again c =
     let last = c .before .before .before .before .before in
-    puts-then (entered (last .before .before .before .before)) (swept-puts refl (last .sweep .ensures))
+    puts-then (entered (last .before .before .before .before)) (swept-puts (last .sweep .ensures))
 
 pub settle-spec : {M : Type 1} → statement M
 settle-spec =
