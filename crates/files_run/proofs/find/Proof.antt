@@ -1,10 +1,10 @@
--- `files_run::written::find` meets its contract. It stays between `from` and the end.
+-- `files_run::find` meets its contract. It stays between `from` and the end.
 -- Assumes nothing.
 use Prim.Native.Nat.{_≤_, _-_}
 use lib.ListN.{length}
 use borrow.Author.Needs.{needs}
-use Rattle.files_run.proofs.written.find.Statement.{statement}
-use Rattle.files_run.proofs.written.find.Tie as tie
+use Rattle.files_run.proofs.find.Statement.{statement}
+use Rattle.files_run.proofs.find.Tie as tie
 
 abbrev Inv-loop : tie.InvT-loop
 Inv-loop bytes from byte i₀ i = (from ≤ i) × (i ≤ length bytes)

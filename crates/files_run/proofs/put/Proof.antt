@@ -1,10 +1,10 @@
--- `files_run::written::put` is safe and ends. It looks at each byte of the text but the first, and at the one before it.
+-- `files_run::put` is safe and ends. It looks at each byte of the text but the first, and at the one before it.
 -- Assumes nothing.
 use Prim.Native.Nat.{_≤_, _-_}
 use lib.ListN.{length}
 use borrow.Author.Needs.{needs}
-use Rattle.files_run.proofs.written.put.Statement.{statement}
-use Rattle.files_run.proofs.written.put.Tie as tie
+use Rattle.files_run.proofs.put.Statement.{statement}
+use Rattle.files_run.proofs.put.Tie as tie
 
 abbrev Inv-loop : tie.InvT-loop
 Inv-loop file₀ written n₀ i₀ file n i = 1 ≤ i

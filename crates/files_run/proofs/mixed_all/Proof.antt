@@ -1,10 +1,10 @@
--- `files_run::memories::mixed_all` is safe and ends. It goes through the bytes of the memory.
+-- `files_run::mixed_all` is safe and ends. It goes through the bytes of the memory.
 -- Assumes nothing.
 use Prim.Native.Nat.{_-_}
 use lib.ListN.{length}
 use borrow.Author.Needs.{needs}
-use Rattle.files_run.proofs.memories.mixed_all.Statement.{statement}
-use Rattle.files_run.proofs.memories.mixed_all.Tie as tie
+use Rattle.files_run.proofs.mixed_all.Statement.{statement}
+use Rattle.files_run.proofs.mixed_all.Tie as tie
 
 abbrev Inv-loop : tie.InvT-loop
 Inv-loop before memory sum₀ i₀ sum i = Unit {0}

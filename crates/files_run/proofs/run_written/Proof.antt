@@ -1,10 +1,10 @@
--- `files_run::written::run` is safe and ends. Each line begins past the one before.
+-- `files_run::run_written` is safe and ends. Each line begins past the one before.
 -- Assumes nothing.
 use Prim.Native.Nat.{_-_}
 use lib.ListN.{length}
 use borrow.Author.Needs.{needs}
-use Rattle.files_run.proofs.written.run.Statement.{statement}
-use Rattle.files_run.proofs.written.run.Tie as tie
+use Rattle.files_run.proofs.run_written.Statement.{statement}
+use Rattle.files_run.proofs.run_written.Tie as tie
 
 abbrev Inv-loop : tie.InvT-loop
 Inv-loop input at₀ at = Unit {0}
@@ -42,8 +42,8 @@ loop-again c = search needs
 returns : tie.Need-returns Inv-loop μ-loop
 returns c = search needs
 
-pub run-spec : {M : Type 1} → statement M
-run-spec =
+pub run-written-spec : {M : Type 1} → statement M
+run-written-spec =
     tie.close
     (tie.spec
     Inv-loop

@@ -1,9 +1,9 @@
--- `files_run::memories::write_list` is safe and ends. Three rows have room in the memory.
+-- `files_run::write_list` is safe and ends. Three rows have room in the memory.
 -- Assumes nothing.
 use Prim.Native.Nat.{_-_}
 use borrow.Author.Needs.{needs}
-use Rattle.files_run.proofs.memories.write_list.Statement.{statement}
-use Rattle.files_run.proofs.memories.write_list.Tie as tie
+use Rattle.files_run.proofs.write_list.Statement.{statement}
+use Rattle.files_run.proofs.write_list.Tie as tie
 
 abbrev Inv-loop : tie.InvT-loop
 Inv-loop name count memory i₀ i = Unit {0}

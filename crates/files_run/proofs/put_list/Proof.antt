@@ -1,9 +1,9 @@
--- `files_run::large::put_list` is safe and ends. It goes through the rows.
+-- `files_run::put_list` is safe and ends. It goes through the rows.
 -- Assumes nothing.
 use Prim.Native.Nat.{_-_}
 use borrow.Author.Needs.{needs}
-use Rattle.files_run.proofs.large.put_list.Statement.{statement}
-use Rattle.files_run.proofs.large.put_list.Tie as tie
+use Rattle.files_run.proofs.put_list.Statement.{statement}
+use Rattle.files_run.proofs.put_list.Tie as tie
 
 abbrev Inv-loop : tie.InvT-loop
 Inv-loop file₀ at count pace fourth fifth p₀ k₀ i₀ file p k i = Unit {0}

@@ -1,11 +1,11 @@
--- `files_run::memories::count_in` meets its contract. It counts no more bytes than it has passed.
+-- `files_run::count_in` meets its contract. It counts no more bytes than it has passed.
 -- Assumes nothing.
 use Prim.Native.Nat.{_≤_, _-_}
 use mathlib.Core.Logic.{⊎-elim}
 use lib.ListN.{length}
 use borrow.Author.Needs.{needs}
-use Rattle.files_run.proofs.memories.count_in.Statement.{statement}
-use Rattle.files_run.proofs.memories.count_in.Tie as tie
+use Rattle.files_run.proofs.count_in.Statement.{statement}
+use Rattle.files_run.proofs.count_in.Tie as tie
 
 abbrev Inv-loop : tie.InvT-loop
 Inv-loop memory byte n₀ i₀ n i = (i ≤ length memory) × (n ≤ i)

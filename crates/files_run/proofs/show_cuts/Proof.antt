@@ -1,9 +1,9 @@
--- `files_run::written::show_cuts` is safe and ends. It goes through the lengths below 29.
+-- `files_run::show_cuts` is safe and ends. It goes through the lengths below 29.
 -- Assumes nothing.
 use Prim.Native.Nat.{_-_}
 use borrow.Author.Needs.{needs}
-use Rattle.files_run.proofs.written.show_cuts.Statement.{statement}
-use Rattle.files_run.proofs.written.show_cuts.Tie as tie
+use Rattle.files_run.proofs.show_cuts.Statement.{statement}
+use Rattle.files_run.proofs.show_cuts.Tie as tie
 
 abbrev Inv-loop : tie.InvT-loop
 Inv-loop recursion n₀ t3 n = Unit {0}
