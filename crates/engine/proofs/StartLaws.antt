@@ -20,7 +20,8 @@ use Rattle.store.specs.Plans.{planOf}
 use Rattle.store.proofs.MarkLaws.{put-room, has-put, has-kept, has-before, clear-none, clear-bits, clear-total, marked-has, has-marked}
 use Rattle.store.proofs.PlanIsModel.{pos-p}
 use Rattle.engine.specs.Given.{StartOf}
-use Rattle.engine.specs.Starting.{startAt, begun}
+use Rattle.engine.specs.StartFacts.{startAt}
+use Rattle.engine.specs.Starting.{begun}
 use Rattle.engine.proofs.Derivable.{Derivable, derivable-put}
 
 module _ (s : Plan) (g : ℕ) (locals : List ℕ) where
@@ -47,10 +48,11 @@ module _ {T : Table} (sound : Sound T) {g₀ : ℕ} {locals : List ℕ} (of : St
   abbrev part : ℕ → ℕ
   part t = planOf T .p + t * K * K
 
-  start-fits : (t : ℕ) → t < T .n → Fits T (startFact T t)
+  pub start-fits : (t : ℕ) → t < T .n → Fits T (startFact T t)
   start-fits t h = (h, sound .g₀, sound .locals t h, sound .g₀, sound .locals t h)
 
-  start-is : (t : ℕ) → t < T .n → pos T (startFact T t) ≡ startAt (planOf T) g₀ locals t
+  -- it stands where the run puts it
+  pub start-is : (t : ℕ) → t < T .n → pos T (startFact T t) ≡ startAt (planOf T) g₀ locals t
   start-is t h =
       pos-p T t (T .g₀) (begins T t) (T .g₀) (begins T t) ∙ ap (λ g. part t + (g * T .L + begins T t) + (g * T .L + begins T t) * K) (of .shared)
       ∙ ap (λ l. part t + (g₀ * T .L + l) + (g₀ * T .L + l) * K) (of .local t h)

@@ -1,11 +1,12 @@
 // The least relations of a table in lent memory, within a budget; and the smallest position that a rule gives and that has no mark.
 ghost use mathlib.Core.Path.{_≡_};
-ghost use Prim.Native.Nat.{_≤_};
+ghost use Prim.Native.Nat.{_<_, _≤_};
 ghost use Rattle.files.specs.Table.{Table};
 ghost use Rattle.store.specs.Marking.{room};
 ghost use Rattle.store.specs.Plans.{Planned};
 ghost use Rattle.engine.specs.Given.{Given, StartIn, RowsOf, StartOf};
 ghost use Rattle.engine.specs.Answers.{Ran, Confirmed};
+ghost use Rattle.engine.specs.StartFacts.{startAt};
 ghost use Rattle.engine.specs.Starting.{begun};
 use crate::lines::Pass;
 use crate::passes::settle;
@@ -24,18 +25,27 @@ pub enum Answer {
     Over,
 }
 
+// Where the start fact of thread t stands.
+pub fn start_at(s: Plan, g: usize, locals: &[u8], t: usize) -> usize
+    requires { ⌜ Planned s × StartIn s g (now locals) × (t < s .n) ⌝ }
+    ensures { λ r. ⌜ (r ≡ startAt s g (now (locals .entry)) t) × (r < s .w) ⌝ }
+{
+    let k = s.k;
+    let c = pair_of(s, g, cell(locals, t));
+    let p = p_at(s, t, c);
+    p + c * k
+}
+
 // Rule 1.
 fn start(s: Plan, g: usize, locals: &[u8], mem: &mut [u8])
     requires { ⌜ Planned s × StartIn s g (now locals) × (s .w ≤ room (now mem)) ⌝ }
     ensures { λ _. ⌜ now (mem .exit) ≡ begun s g (now (locals .entry)) (s .n) (now (mem .entry)) ⌝ }
 {
     let n = s.n;
-    let k = s.k;
     let mut t: usize = 0;
     while t < n {
-        let c = pair_of(s, g, cell(locals, t));
-        let p = p_at(s, t, c);
-        put_mark(mem, p + c * k);
+        let p = start_at(s, g, locals, t);
+        put_mark(mem, p);
         t += 1;
     }
 }

@@ -22,8 +22,8 @@ use Rattle.store.specs.declared.rows.Row.{Row}
 use Rattle.store.specs.declared.rows.RowCounts.{RowCounts}
 use Rattle.store.specs.Reading.{rowOf, stepOf, pushOf, popOf, Nth, Same, Reads}
 use Rattle.store.specs.Plans.{sized, planOf}
-use Rattle.store.proofs.PlanIsModel.{planned}
 use Rattle.engine.specs.Given.{Given, StartIn, RowsOf, StartOf}
+use Rattle.engine.proofs.GivenLaws.{rows-given, start-given}
 use Rattle.verdict.specs.Judged.{ErrorsOf}
 use Rattle.rules.specs.Lent.{Laid, Stored}
 
@@ -91,11 +91,10 @@ laid-long {cells} {rows} r l e = omega (arith, r .count, l .room, ap length (l .
 -- ---- the rows of a table
 
 module _ {T : Table} {h : Header} {k : Counts} {st pu po er : List ℕ} (s : Stored T h k st pu po er) where
-  counts : RowCounts
+  abbrev counts : RowCounts
   counts = record { steps = k .steps; pushes = k .pushes; pops = k .pops }
 
   reads : Reads T counts st pu po
-  unfolding counts
   reads =
       record {
         steps =
@@ -109,32 +108,14 @@ module _ {T : Table} {h : Header} {k : Counts} {st pu po er : List ℕ} (s : Sto
             (ap (λ (x : Counts). x .pops) (s .counts));
       }
 
-  pub stored-rows : {p : Plan} → p ≡ planOf T → RowsOf T p (record { steps = k .steps; pushes = k .pushes; pops = k .pops }) st pu po
-  unfolding counts
+  pub stored-rows : {p : Plan} → p ≡ planOf T → RowsOf T p counts st pu po
   stored-rows e = record { sound = s .sound; plan = e; reads = reads }
 
-  pub stored-given : {p : Plan} → p ≡ planOf T → Given p (record { steps = k .steps; pushes = k .pushes; pops = k .pops }) st pu po
-  unfolding counts
+  pub stored-given : {p : Plan} → p ≡ planOf T → Given p counts st pu po
   stored-given e =
-      rw e
-      (record {
-        plan = planned T (s .sound);
-        steps =
-            record {
-              long = laid-long (s .sound .steps) (s .steps) (ap (λ (x : Counts). x .steps) (s .counts));
-              fit = λ i h. let f = s .sound .steps .fits _ (reads .steps .to i h) in record { t = f .t; g = f .g; l = f .l; u = f .g′; v = f .l′ };
-            };
-        pushes =
-            record {
-              long = laid-long (s .sound .pushes) (s .pushes) (ap (λ (x : Counts). x .pushes) (s .counts));
-              fit = λ i h. let f = s .sound .pushes .fits _ (reads .pushes .to i h) in record { t = f .t; g = f .g; l = f .l; u = f .l′; v = f .f };
-            };
-        pops =
-            record {
-              long = laid-long (s .sound .pops) (s .pops) (ap (λ (x : Counts). x .pops) (s .counts));
-              fit = λ i h. let f = s .sound .pops .fits _ (reads .pops .to i h) in record { t = f .t; g = f .g; l = f .l; u = f .f; v = f .l′ };
-            };
-      })
+      rows-given (stored-rows e) (laid-long (s .sound .steps) (s .steps) (ap (λ (x : Counts). x .steps) (s .counts)))
+      (laid-long (s .sound .pushes) (s .pushes) (ap (λ (x : Counts). x .pushes) (s .counts)))
+      (laid-long (s .sound .pops) (s .pops) (ap (λ (x : Counts). x .pops) (s .counts)))
 
   -- the error rows, and the failed store
   pub stored-errors : {p : Plan} → p ≡ planOf T → ErrorsOf T p (h .failed) er (k .errors)
@@ -165,17 +146,12 @@ module _ {T : Table} {h : Header} {k : Counts} {st pu po er : List ℕ} (s : Sto
   start : h .start ≡ T .g₀
   start = ap (λ (x : Header). x .start) (s .header)
 
-  pub stored-start : {p : Plan} → p ≡ planOf T → StartIn p (h .start) (h .firsts)
-  stored-start e =
-      rw e
-      (record {
-        long = omega (arith, s .sound .n .1, ap (λ (x : Header). length (x .firsts)) (s .header));
-        shared = omega (arith, start, s .sound .g₀);
-        local = λ t i. rw (first-local t i) (s .sound .locals t i);
-      })
-
   pub stored-begins : StartOf T (h .start) (h .firsts)
   stored-begins = record { shared = sym start; local = λ t i. sym (first-local t i) }
+
+  pub stored-start : {p : Plan} → p ≡ planOf T → StartIn p (h .start) (h .firsts)
+  stored-start e =
+      start-given (stored-rows s e) stored-begins (omega (arith, s .sound .n .1, ap (λ (x : Header). length (x .firsts)) (s .header)))
 
   -- ---- the sizes
 

@@ -1,5 +1,5 @@
--- From the first W bytes to the whole memory: what the engine and the verdict leave in the part that is lent to them is what the check answers.
---     over-here, done-here                           a cleared part; a part that holds the least relations, with the verdict on it
+-- From the first W bytes to the whole memory: what the engine leaves in the part that is lent to it, with the verdict, is what the check answers.
+--     over-here, done-here                           a cleared part; a part that holds the least relations, with the verdict
 --     answer-short, answer-over, answer-done         the answer, by the plan and by what the engine answers
 -- Assumes nothing.
 use mathlib.Core.Path.{_≡_, refl, sym, ap, _∙_}
@@ -44,9 +44,9 @@ module _ (T : Table) (budget : ℕ) (m m′ : List ℕ) (room : W T ≤ length m
       }
 
   pub done-here : {count : ℕ} {verdict : Verdict} → Sound T → Relations T (take (W T) m′) → FactCount T count → count ≤ budget
-      → Judged T (take (W T) m′) verdict → OfTable T budget m (Done count verdict) m′
+      → Judged T m′ verdict → OfTable T budget m (Done count verdict) m′
   done-here sound r k l j =
-      done room (record { counted = k; within = l; relations = whole-holds r; rest = rest; judged = judged-least sound r j })
+      done room (record { counted = k; within = l; relations = whole-holds r; rest = rest; judged = judged-least sound (whole-holds r) j })
 
 -- ---- by the plan, and by what the engine answers
 
@@ -62,11 +62,11 @@ module _ (T : Table) (s : Plan) (budget : ℕ) (m m′ : List ℕ) (sound : Soun
       over-here T budget m m′ (rw e at room) long (rw e at rest) c x
 
   pub answer-done : {r : Answer} {count : ℕ} {verdict : Verdict} → r ≡ Ends.Done count → Ran T budget r (take (s .w) m′)
-      → Judged T (take (s .w) m′) verdict → OfTable T budget m (Done count verdict) m′
+      → Judged T m′ verdict → OfTable T budget m (Done count verdict) m′
   answer-done q ran j =
       let e = w-by T plan in
       let (h, k, l) = rw (q, e) at ran in
-      done-here T budget m m′ (rw e at room) long (rw e at rest) sound h k l (rw e at j)
+      done-here T budget m m′ (rw e at room) long (rw e at rest) sound h k l j
 
 -- a memory that is shorter than the room
 pub answer-short : {T : Table} {budget w : ℕ} {m : List ℕ} → w ≡ W T → length m < w → OfTable T budget m (Short w) m

@@ -1,4 +1,4 @@
--- What the check's private functions are lent: a table's header and counts, and its rows in memory, as the table reader leaves them.
+-- What functions over a table that was read are lent: its header and counts, and its rows in memory, as the table reader leaves them.
 use mathlib.Core.Path.{_≡_}
 use mathlib.Core.List.{List}
 use Prim.Native.Nat.{ℕ, _*_, _≤_}

@@ -1,12 +1,10 @@
 // The check: a table's bytes, working memory and a budget in; an answer out.
 ghost use mathlib.Core.Path.{_≡_};
-ghost use Prim.Native.Nat.{_*_, _≤_};
+ghost use Prim.Native.Nat.{_≤_};
 ghost use lib.ListN.{length, take, drop};
-ghost use Rattle.files.specs.Table.{Table, mostErrors};
-ghost use Rattle.store.specs.Plans.{Planned};
+ghost use Rattle.files.specs.Table.{Table};
 ghost use Rattle.engine.specs.Given.{Given, StartIn, RowsOf, StartOf};
 ghost use Rattle.engine.specs.Answers.{Ran};
-ghost use Rattle.verdict.specs.Judged.{ErrorsOf, Judged};
 ghost use Rattle.rules.specs.Checking.{OfTable, Checked};
 ghost use Rattle.rules.specs.Lent.{Stored};
 use crate::answer::Answer;
@@ -15,7 +13,6 @@ use files::table::Counts;
 use files::table::Outcome;
 use store::plan::Plan;
 use store::rows::RowCounts;
-use verdict::search::Verdict;
 
 // The least relations in the first w bytes of a memory.
 fn run_in(
@@ -36,15 +33,6 @@ fn run_in(
 {
     let w = s.w;
     engine::run::run(s, n, steps, pushes, pops, g, locals, &mut mem[..w], budget)
-}
-
-// The verdict on the first w bytes of a memory.
-fn judge_in(s: Plan, failed: usize, rows: &[u8; 320], n: usize, mem: &[u8]) -> Verdict
-    requires { ⌜ Planned s × (failed ≤ s .l) × (5 * n ≤ length (now rows)) × (n ≤ mostErrors) × (s .w ≤ length (now mem)) ⌝ }
-    ensures { λ r. ⌜ ((T : Table) → ErrorsOf T s failed (now (rows .entry)) n → Judged T (take (s .w) (now (mem .entry))) r) ⌝ }
-{
-    let w = s.w;
-    verdict::search::judge(s, failed, rows, n, &mem[..w])
 }
 
 // Checks a table whose rows are stored, in working memory of any length.
@@ -68,11 +56,7 @@ fn check_stored(
     if mem.len() < w {
         return Answer::Short { room: w };
     }
-    let threads = sizes.threads as usize;
-    let shared = sizes.shared as usize;
-    let locals = sizes.locals as usize;
-    let frames = sizes.frames as usize;
-    let s = store::plan::plan_of(threads, shared, locals, frames);
+    let s = store::plan::plan_by(sizes);
     let rows = RowCounts {
         steps: counts.steps,
         pushes: counts.pushes,
@@ -84,7 +68,7 @@ fn check_stored(
     let n = counts.errors;
     match run_in(s, rows, steps, pushes, pops, start, &firsts, mem, budget) {
         engine::run::Answer::Done(count) => {
-            let verdict = judge_in(s, failed, errors, n, mem);
+            let verdict = verdict::search::judge(s, failed, errors, n, mem);
             Answer::Done { count, verdict }
         }
         engine::run::Answer::Over => Answer::Over { budget },

@@ -2,6 +2,7 @@
 ghost use mathlib.Core.Path.{_≡_};
 ghost use Prim.Native.Nat.{_<_, _≤_};
 ghost use Rattle.store.specs.Plans.{Planned, pair, pAt, qAt, gAt, sized};
+use files::columns::Sizes;
 
 // n threads, g shared stores, l local stores, f frames; k pairs of a shared and a local store; p and q, where the P and the Q facts begin;
 // w facts in all.
@@ -35,6 +36,19 @@ pub fn plan_of(n: usize, g: usize, l: usize, f: usize) -> Plan
         q: q,
         w: w,
     }
+}
+
+// The plan of a table with these sizes.
+pub fn plan_by(sizes: Sizes) -> Plan
+    requires { ⌜ (0 < sizes .threads) × (sizes .threads ≤ 4) × (0 < sizes .shared) × (sizes .shared ≤ 16)
+        × (0 < sizes .locals) × (sizes .locals ≤ 16) × (sizes .frames ≤ 8) ⌝ }
+    ensures { λ r. ⌜ (r ≡ sized (sizes .threads) (sizes .shared) (sizes .locals) (sizes .frames)) × Planned r ⌝ }
+{
+    let n = sizes.threads as usize;
+    let g = sizes.shared as usize;
+    let l = sizes.locals as usize;
+    let f = sizes.frames as usize;
+    plan_of(n, g, l, f)
 }
 
 // The pair of shared store g and local store l.

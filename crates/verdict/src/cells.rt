@@ -15,7 +15,7 @@ use store::rows::cell;
 
 // The last thread up to t that reaches l at g, given u, the last before t.
 fn later(s: Plan, mem: &[u8], t: usize, g: usize, l: usize, u: usize) -> usize
-    requires { ⌜ Planned s × (room (now mem) ≡ s .w) × (t < s .n) × (g < s .g) × (l < s .l)
+    requires { ⌜ Planned s × (s .w ≤ room (now mem)) × (t < s .n) × (g < s .g) × (l < s .l)
         × Last (λ i. Reached s (now mem) g i l) (s .n) t u ⌝ }
     ensures { λ r. ⌜ Last (λ i. Reached s (now (mem .entry)) g i l) (s .n) (t + 1) r ⌝ }
 {
@@ -28,7 +28,7 @@ fn later(s: Plan, mem: &[u8], t: usize, g: usize, l: usize, u: usize) -> usize
 // The thread that is to be in the failed store k at g: one whose smallest store that is; else the last that reaches it; else the number of
 // threads.
 fn pick(s: Plan, mem: &[u8], g: usize, k: usize) -> usize
-    requires { ⌜ Planned s × (room (now mem) ≡ s .w) × (g < s .g) × (k < s .l) ⌝ }
+    requires { ⌜ Planned s × (s .w ≤ room (now mem)) × (g < s .g) × (k < s .l) ⌝ }
     ensures { λ r. ⌜ Picked (Reached s (now (mem .entry)) g) (s .n) k r ⌝ }
 {
     let n = s.n;
@@ -47,7 +47,7 @@ fn pick(s: Plan, mem: &[u8], g: usize, k: usize) -> usize
 
 // For row 0, the thread that is to be in the failed store at g; for a row of the file, thread 0 if the row fits g. Else the number of threads.
 pub fn aim(s: Plan, failed: usize, rows: &[u8], n: usize, mem: &[u8], row: usize, g: usize) -> usize
-    requires { ⌜ Planned s × (failed ≤ s .l) × (5 * n ≤ length (now rows)) × (n ≤ mostErrors) × (room (now mem) ≡ s .w)
+    requires { ⌜ Planned s × (failed ≤ s .l) × (5 * n ≤ length (now rows)) × (n ≤ mostErrors) × (s .w ≤ room (now mem))
         × (row ≤ n) × (g < s .g) ⌝ }
     ensures { λ r. ⌜ Aimed s failed (now (rows .entry)) (now (mem .entry)) row g r ⌝ }
 {

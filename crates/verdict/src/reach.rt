@@ -1,6 +1,6 @@
 // The local stores that a thread reaches at a shared store.
 ghost use mathlib.Core.Path.{_≡_};
-ghost use Prim.Native.Nat.{_<_};
+ghost use Prim.Native.Nat.{_<_, _≤_};
 ghost use Rattle.model.specs.Errors.{Cell};
 ghost use Rattle.store.specs.Plans.{Planned};
 ghost use Rattle.store.specs.Marking.{room, Is};
@@ -12,7 +12,7 @@ use store::plan::pair_of;
 
 // Whether thread t reaches local store l at g: some P fact of t ends there.
 pub fn reached(s: Plan, mem: &[u8], t: usize, g: usize, l: usize) -> bool
-    requires { ⌜ Planned s × (room (now mem) ≡ s .w) × (t < s .n) × (g < s .g) × (l < s .l) ⌝ }
+    requires { ⌜ Planned s × (s .w ≤ room (now mem)) × (t < s .n) × (g < s .g) × (l < s .l) ⌝ }
     ensures { λ r. ⌜ Is (Reached s (now (mem .entry)) g t l) r ⌝ }
 {
     let k = s.k;
@@ -40,7 +40,7 @@ pub fn cell_fits(cell: usize, k: usize) -> bool
 
 // Whether thread t reaches l at g, and the cell fits l.
 fn choice(s: Plan, mem: &[u8], t: usize, g: usize, cell: usize, l: usize) -> bool
-    requires { ⌜ Planned s × (room (now mem) ≡ s .w) × (t < s .n) × (g < s .g) × (l < s .l) ⌝ }
+    requires { ⌜ Planned s × (s .w ≤ room (now mem)) × (t < s .n) × (g < s .g) × (l < s .l) ⌝ }
     ensures { λ r. ⌜ Is (Choice (Reached s (now (mem .entry)) g t) cell l) r ⌝ }
 {
     if !cell_fits(cell, l) {
@@ -51,7 +51,7 @@ fn choice(s: Plan, mem: &[u8], t: usize, g: usize, cell: usize, l: usize) -> boo
 
 // The smallest local store that thread t reaches at g and the cell fits, or the number of local stores.
 pub fn least(s: Plan, mem: &[u8], t: usize, g: usize, cell: usize) -> usize
-    requires { ⌜ Planned s × (room (now mem) ≡ s .w) × (t < s .n) × (g < s .g) ⌝ }
+    requires { ⌜ Planned s × (s .w ≤ room (now mem)) × (t < s .n) × (g < s .g) ⌝ }
     ensures { λ r. ⌜ Least (Choice (Reached s (now (mem .entry)) g t) cell) (s .l) r ⌝ }
 {
     let n = s.l;

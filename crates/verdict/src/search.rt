@@ -46,7 +46,7 @@ fn found(row: usize, g: usize, ls: [usize; 4]) -> Verdict
 
 // The verdict on the facts that mem marks, of a table with plan s, the failed cell and n error rows of five bytes.
 pub fn judge(s: Plan, failed: usize, rows: &[u8], n: usize, mem: &[u8]) -> Verdict
-    requires { ⌜ Planned s × (failed ≤ s .l) × (5 * n ≤ length (now rows)) × (n ≤ mostErrors) × (room (now mem) ≡ s .w) ⌝ }
+    requires { ⌜ Planned s × (failed ≤ s .l) × (5 * n ≤ length (now rows)) × (n ≤ mostErrors) × (s .w ≤ room (now mem)) ⌝ }
     ensures { λ r. ⌜ ((T : Table) → ErrorsOf T s failed (now (rows .entry)) n → Judged T (now (mem .entry)) r) ⌝ }
 {
     let threads = s.n;

@@ -16,11 +16,11 @@ use Rattle.rules.proofs.check.check_stored.Statement.{statement}
 use Rattle.rules.proofs.check.check_stored.Tie as tie
 
 -- the places on the way, from the engine's call back
-abbrev plan : tie.After-run-in-arg → tie.After-plan-of
+abbrev plan : tie.After-run-in-arg → tie.After-plan-by
 plan a = a .before .before .before .before .before
 
 abbrev start : tie.After-run-in-arg → tie.Start
-start a = a .before .before .before .before .before .before .before .before .before .before .before .before .before .before
+start a = plan a .before .before .before .before .before
 
 -- the header, the counts and the rows that were lent are a table's
 abbrev Of : tie.After-run-in-arg → Table → Type 0
@@ -31,21 +31,21 @@ Of a T =
 own : (a : tie.After-run-in-arg) → Of a (start a .pre .0)
 own a = start a .pre .1
 
-plan-is : (a : tie.After-run-in-arg) (T : Table) → Of a T → plan a .plan-of .result ≡ planOf T
-plan-is a T st = stored-plan st (plan a .plan-of .ensures .0)
+plan-is : (a : tie.After-run-in-arg) (T : Table) → Of a T → plan a .plan-by .result ≡ planOf T
+plan-is a T st = stored-plan st (plan a .plan-by .ensures .0)
 
-own-plan : (a : tie.After-run-in-arg) → plan a .plan-of .result ≡ planOf (start a .pre .0)
+own-plan : (a : tie.After-run-in-arg) → plan a .plan-by .result ≡ planOf (start a .pre .0)
 own-plan a = plan-is a _ (own a)
 
 -- the memory has room for the facts
-enough : (a : tie.After-run-in-arg) → plan a .plan-of .result .w ≤ length (now (start a .args .mem))
+enough : (a : tie.After-run-in-arg) → plan a .plan-by .result .w ≤ length (now (start a .args .mem))
 enough a =
     omega (
       arith,
       w-by (start a .pre .0) (own-plan a),
       stored-room (own a),
-      a .before .before .before .before .before .before .before .before .before .before .before .room-of .ensures,
-      a .before .before .before .before .before .before .before .before .before .before .if1 .left,
+      plan a .before .before .room-of .ensures,
+      plan a .before .if1 .left,
     )
 
 room-of-requires : tie.Need-room-of-requires
@@ -54,20 +54,8 @@ room-of-requires c κs = search needs
 returns : tie.Need-returns
 returns c = λ T st. answer-short (c .before .room-of .ensures ∙ stored-room st) (c .if1 .taken)
 
-cast-threads : tie.Need-cast-threads
-cast-threads c = search needs
-
-cast-shared : tie.Need-cast-shared
-cast-shared c = search needs
-
-cast-locals : tie.Need-cast-locals
-cast-locals c = search needs
-
-cast-frames : tie.Need-cast-frames
-cast-frames c = search needs
-
-plan-of-requires : tie.Need-plan-of-requires
-plan-of-requires c κs = stored-sizes (c .before .before .before .before .before .before .before .before .pre .1)
+plan-by-requires : tie.Need-plan-by-requires
+plan-by-requires c κs = stored-sizes (c .before .before .before .before .pre .1)
 
 cast-start : tie.Need-cast-start
 cast-start c = search needs
@@ -81,11 +69,11 @@ run-in-requires c κs = (stored-given (own c) (own-plan c), stored-start (own c)
 enum-known-count : tie.Need-enum-known-count
 enum-known-count c = search needs
 
-judge-in-requires : tie.Need-judge-in-requires
-judge-in-requires c κs =
-    let r : tie.After-run-in = c .before .before .before .before .before .before in
+judge-requires : tie.Need-judge-requires
+judge-requires c κs =
+    let r : tie.After-run-in = c .before .before .before .before .before .before .before in
     let a : tie.After-run-in-arg = r .before in (
-      plan a .plan-of .ensures .1,
+      plan a .plan-by .ensures .1,
       stored-failed (own a) (own-plan a),
       stored-errors-long (own a),
       stored-count (own a),
@@ -100,12 +88,12 @@ same-length c = search needs
 
 returns-2 : tie.Need-returns-2
 returns-2 c =
-    let r : tie.After-run-in = c .before .before .before .before .before .before .before in
+    let r : tie.After-run-in = c .before .before .before .before .before .before .before .before in
     let a : tie.After-run-in-arg = r .before in
     λ T st. let e = plan-is a T st in
     answer-done T _ _ _ _ (st .sound) e (enough a)
-    (r .run-in .kept .1 .1 .1 .1 .1 .1 .1 .0) (r .run-in .ensures .1) (c .before .before .before .count .given .1)
-    (r .run-in .ensures .0 T (stored-rows st e) (stored-begins st)) (c .judge-in .ensures T (stored-errors st e))
+    (r .run-in .kept .1 .1 .1 .1 .1 .1 .1 .0) (r .run-in .ensures .1) (c .before .before .before .before .count .given .1)
+    (r .run-in .ensures .0 T (stored-rows st e) (stored-begins st)) (c .judge .ensures T (stored-errors st e))
 
 same-length-2 : tie.Need-same-length-2
 same-length-2 c = search needs
@@ -124,16 +112,12 @@ check-stored-spec =
     (tie.spec
     room-of-requires
     returns
-    cast-threads
-    cast-shared
-    cast-locals
-    cast-frames
-    plan-of-requires
+    plan-by-requires
     cast-start
     cast-failed
     run-in-requires
     enum-known-count
-    judge-in-requires
+    judge-requires
     enum-told
     same-length
     returns-2
