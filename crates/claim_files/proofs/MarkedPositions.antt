@@ -1,0 +1,145 @@
+-- Laws of the positions that are marked in a memory.
+--     marked-here, -skip    the positions from p on, by whether p is marked
+--     marked-most           they are no more than the positions that are looked at
+--     positions-total       they are as many as the marks are in sum
+--     Coming, coming        the marked positions from a place on: the first of them, and those after it
+--     Seeking, seek-…       the loop that looks for the first
+-- Assumes nothing.
+use mathlib.Core.Path.{_≡_, refl, ap, _∙_}
+use mathlib.Core.List.{List, [], _∷_}
+use Prim.Native.Nat.{ℕ, zero, suc, _+_, _-_, _≤_, _<_}
+use native.Mathlib.Omega.{arith}
+use native.Mathlib.Decide.{decLt}
+use borrow.Author.Tests.{eq-eqb, ne-eqb}
+use lib.ListN.{length}
+use Rattle.model.specs.Memory.{mark, total}
+use Rattle.store.specs.Marking.{Has}
+use Rattle.store.proofs.MarkLaws.{BitsTo, has?}
+use Rattle.claim_files.specs.Marks.{markedFrom, positionsIn}
+use Rattle.claim_files.specs.Stages.{firstOr}
+
+pub marked-none : (mem : List ℕ) (p : ℕ) → markedFrom mem p 0 ≡ []
+unfolding markedFrom
+marked-none mem p = refl
+
+module _ (mem : List ℕ) (p k : ℕ) where
+  pub marked-here : Has mem p → markedFrom mem p (suc k) ≡ p ∷ markedFrom mem (p + 1) k
+  unfolding markedFrom Has
+  marked-here h = simp (eq-eqb (mark mem p) 1 h)
+
+  pub marked-skip : ¬ Has mem p → markedFrom mem p (suc k) ≡ markedFrom mem (p + 1) k
+  unfolding markedFrom Has
+  marked-skip h = simp (ne-eqb (mark mem p) 1 h)
+
+pub marked-most : (mem : List ℕ) (p k : ℕ) → length (markedFrom mem p k) ≤ k
+marked-most mem p zero = rw marked-none (omega arith)
+marked-most mem p (suc k) = go (has? mem p) (marked-most mem (p + 1) k)
+  where
+    go : Dec (Has mem p) → length (markedFrom mem (p + 1) k) ≤ k → length (markedFrom mem p (suc k)) ≤ suc k
+    go (yes h) i = rw (marked-here mem p k h) (omega arith)
+    go (no h) i = rw (marked-skip mem p k h) (omega arith)
+
+pub positions-most : (w : ℕ) (mem : List ℕ) → length (positionsIn w mem) ≤ w
+unfolding positionsIn
+positions-most w mem = marked-most mem 0 w
+
+-- ---- how many there are, in a memory whose first w marks are 0 or 1
+
+unmarked : (x : ℕ) → x ≤ 1 → ¬ (x ≡ 1) → x ≡ 0
+unmarked zero h n = refl
+unmarked (suc zero) h n = absurd (n refl)
+unmarked (suc (suc x)) h n = absurd (omega arith)
+
+module _ (mem : List ℕ) where
+  -- one more position is looked at
+  marked-last : (k p : ℕ) → mark mem (p + k) ≤ 1 → length (markedFrom mem p (suc k)) ≡ length (markedFrom mem p k) + mark mem (p + k)
+  unfolding Has
+  marked-last zero p b = go (has? mem p)
+    where
+      here : p + 0 ≡ p
+      here = omega arith
+
+      go : Dec (Has mem p) → length (markedFrom mem p 1) ≡ length (markedFrom mem p 0) + mark mem (p + 0)
+      go (yes h) = rw (marked-here mem p 0 h, marked-none, marked-none, here, h)
+      go (no h) = rw (marked-skip mem p 0 h, marked-none, marked-none, unmarked (mark mem (p + 0)) b (λ e. h (rw here at e)))
+  marked-last (suc k) p b = go (has? mem p) (marked-last k (p + 1) (rw next at b))
+    where
+      next : p + suc k ≡ p + 1 + k
+      next = omega arith
+
+      go : Dec (Has mem p)
+          → length (markedFrom mem (p + 1) (suc k)) ≡ length (markedFrom mem (p + 1) k) + mark mem (p + 1 + k)
+          → length (markedFrom mem p (suc (suc k))) ≡ length (markedFrom mem p (suc k)) + mark mem (p + suc k)
+      go (yes h) e = rw (marked-here mem p (suc k) h, marked-here mem p k h, next) (omega arith)
+      go (no h) e = rw (marked-skip mem p (suc k) h, marked-skip mem p k h, next) e
+
+  pub positions-total : (w : ℕ) → BitsTo w mem → length (positionsIn w mem) ≡ total mem w
+  unfolding positionsIn total
+  positions-total zero b = rw marked-none
+  positions-total (suc w) b =
+      let here : 0 + w ≡ w = omega arith in
+      let e = rw here at (marked-last w 0 (rw here (b w (omega arith)))) in
+      omega (arith, positions-total w (λ p l. b p (omega arith)))
+
+-- ---- the first of the marked positions, and the others
+
+-- rest are the marked positions that are to come after `last`, and p is the first of them; or there is none, and p is w
+pub record Coming (mem : List ℕ) (w last p : ℕ) (rest : List ℕ) : Type 0 where
+  pub some : p < w → (last ≤ p) × (rest ≡ p ∷ markedFrom mem (p + 1) (w - (p + 1)))
+  pub none : w ≤ p → rest ≡ []
+
+module _ (mem : List ℕ) (w last : ℕ) where
+  coming-from : (k from p : ℕ) → last ≤ from → from + k ≡ w → p ≡ firstOr w (markedFrom mem from k) → Coming mem w last p (markedFrom mem from k)
+  unfolding markedFrom
+  coming-from zero from p h e f = record { some = λ l. absurd (omega arith); none = λ _. refl }
+  coming-from (suc k) from p h e f = go (has? mem from) (coming-from k (from + 1) p (omega arith) (omega arith))
+    where
+      go : Dec (Has mem from) → (p ≡ firstOr w (markedFrom mem (from + 1) k) → Coming mem w last p (markedFrom mem (from + 1) k))
+          → Coming mem w last p (markedFrom mem from (suc k))
+      go (yes i) rec =
+          let m = marked-here mem from k i in
+          let is : p ≡ from = f ∙ ap (firstOr w) m in
+          let left : k ≡ w - (from + 1) = omega arith in
+          record { some = λ l. (omega arith, m ∙ rw (is, left)); none = λ l. absurd (omega arith) }
+      go (no i) rec =
+          let m = marked-skip mem from k i in
+          let c = rec (f ∙ ap (firstOr w) m) in
+          record { some = λ l. (c .some l .0, m ∙ c .some l .1); none = λ l. m ∙ c .none l }
+
+  pub coming : (from p : ℕ) → last ≤ from → from ≤ w → p ≡ firstOr w (markedFrom mem from (w - from))
+      → Coming mem w last p (markedFrom mem from (w - from))
+  coming from p h i f = coming-from (w - from) from p h (omega arith) f
+
+-- what is looked for from a place on is not before it
+pub next-past : (mem : List ℕ) (w from p : ℕ) → from ≤ w → p ≡ firstOr w (markedFrom mem from (w - from)) → from ≤ p
+next-past mem w from p h f = go (decLt p w)
+  where
+    go : Dec (p < w) → from ≤ p
+    go (yes l) = coming mem w from from p (omega arith) h f .some l .0
+    go (no l) = omega arith
+
+-- ---- the loop that looks for it: none is marked from `from` up to p
+
+pub record Seeking (mem : List ℕ) (from w p : ℕ) : Type 0 where
+  pub up : p ≤ w
+  pub same : markedFrom mem from (w - from) ≡ markedFrom mem p (w - p)
+
+module _ {mem : List ℕ} {from w : ℕ} where
+  pub seek-start : from ≤ w → Seeking mem from w from
+  seek-start h = record { up = h; same = refl }
+
+  module _ {p : ℕ} (s : Seeking mem from w p) where
+    pub seek-found : p < w → Has mem p → p ≡ firstOr w (markedFrom mem from (w - from))
+    seek-found h i =
+        let left : w - p ≡ suc (w - (p + 1)) = omega arith in
+        rw (s .same, left, marked-here mem p (w - (p + 1)) i)
+
+    pub seek-more : p < w → ¬ Has mem p → Seeking mem from w (p + 1)
+    seek-more h i =
+        let left : w - p ≡ suc (w - (p + 1)) = omega arith in
+        record { up = omega arith; same = s .same ∙ rw (left, marked-skip mem p (w - (p + 1)) i) }
+
+    pub seek-end : w ≤ p → w ≡ firstOr w (markedFrom mem from (w - from))
+    seek-end h =
+        let none : w - p ≡ 0 = omega arith in
+        rw (s .same, none, marked-none)

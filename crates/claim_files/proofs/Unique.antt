@@ -1,0 +1,60 @@
+-- Two results that a contract allows are equal, the answer and every byte lent: for each public function, of its contract as the prover reads it
+-- from the source (`Post`). All but one are equations. The memory that `mark_claim` leaves is told byte by byte, so two are equal byte by byte.
+-- Assumes nothing.
+use mathlib.Core.Path.{_≡_, refl}
+use mathlib.Core.List.{List}
+use Prim.Native.Nat.{ℕ}
+use native.Mathlib.Omega.{arith}
+use lib.Seq.{ext-getD}
+use contract.Lifetimes.{Lfts}
+use denote.Ref.{now}
+use denote.Triple.Clauses.{AtExit}
+use borrow.Fn.Kinds.{Dens, resT, endedOf}
+use Rattle.numbers.proofs.Unique.{same, Fixes}
+use Rattle.model.specs.Memory.{Says, holds, fails}
+use Rattle.claim_files.specs.ClaimFile.{ClaimPut}
+use Rattle.claim_files.specs.Marks.{Marks}
+use Rattle.claim_files.proofs.reading.read_claim.Reads as read-claim
+use Rattle.claim_files.proofs.reading.read_claim.Kinds as read-claim-kinds
+use Rattle.claim_files.proofs.reading.mark_claim.Reads as mark-claim
+use Rattle.claim_files.proofs.reading.mark_claim.Kinds as mark-claim-kinds
+use Rattle.claim_files.proofs.writing.claim_width.Reads as claim-width
+use Rattle.claim_files.proofs.writing.claim_width.Kinds as claim-width-kinds
+use Rattle.claim_files.proofs.writing.put_claim.Reads as put-claim
+use Rattle.claim_files.proofs.writing.put_claim.Kinds as put-claim-kinds
+
+pub read-claim-fixes : Fixes read-claim-kinds.ps read-claim-kinds.r read-claim.Post
+read-claim-fixes κs a x x′ s s′ = same
+
+pub claim-width-fixes : Fixes claim-width-kinds.ps claim-width-kinds.r claim-width.Post
+claim-width-fixes κs a x x′ s s′ = same
+
+-- ---- a memory that marks positions
+
+-- marks that say one thing are equal
+says-same : {A : Type 0} {x y : ℕ} → Says A x → Says A y → x ≡ y
+says-same (holds a) (holds b) = refl
+says-same (holds a) (fails n) = absurd (n a)
+says-same (fails n) (holds b) = absurd (n b)
+says-same (fails n) (fails m) = refl
+
+pub marks-unique : {w : ℕ} {ps mem mem′ : List ℕ} → Marks w ps mem → Marks w ps mem′ → mem ≡ mem′
+marks-unique {mem = mem} {mem′} m m′ =
+    ext-getD 0 mem mem′ (same (m .long) (m′ .long))
+    (λ p l. says-same (m .says p (omega (arith, m .long))) (m′ .says p (omega (arith, m .long))))
+
+pub mark-claim-fixes : (κs : Lfts 2) (a : Dens κs mark-claim-kinds.ps) (x x′ : resT mark-claim-kinds.r κs .Denot)
+    (s s′ : AtExit (endedOf 2 mark-claim-kinds.ps mark-claim-kinds.r) κs)
+    → mark-claim.Post κs a x s → mark-claim.Post κs a x′ s′ → now (s .1 .1 .0) ≡ now (s′ .1 .1 .0)
+mark-claim-fixes κs a x x′ s s′ = marks-unique
+
+-- ---- a claim that is written
+
+pub claim-put-unique : {ps before after after′ : List ℕ} {r r′ : ℕ} → ClaimPut ps before after r → ClaimPut ps before after′ r′
+    → (r ≡ r′) × (after ≡ after′)
+claim-put-unique p q = (same (p .count) (q .count), same (p .bytes) (q .bytes))
+
+pub put-claim-fixes : (κs : Lfts 2) (a : Dens κs put-claim-kinds.ps) (x x′ : ℕ)
+    (s s′ : AtExit (endedOf 2 put-claim-kinds.ps put-claim-kinds.r) κs)
+    → put-claim.Post κs a x s → put-claim.Post κs a x′ s′ → (x ≡ x′) × (now (s .1 .1 .0) ≡ now (s′ .1 .1 .0))
+put-claim-fixes κs a x x′ s s′ = claim-put-unique

@@ -1,0 +1,47 @@
+-- `claim_files::writing::claim_width` meets its contract: the widths of the version and the count, and that of the positions.
+-- Assumes nothing.
+use borrow.Author.Needs.{needs}
+use native.Mathlib.Omega.{arith}
+use Rattle.numbers.proofs.WritingLaws.{one-to-four-bytes}
+use Rattle.claim_files.proofs.WritingLoops.{sizes-small, sizes-claim}
+use Rattle.claim_files.proofs.writing.claim_width.Statement.{statement}
+use Rattle.claim_files.proofs.writing.claim_width.Tie as tie
+
+sizes-of-requires : tie.Need-sizes-of-requires
+sizes-of-requires c κs = search needs
+
+cast-width : tie.Need-cast-width
+cast-width c = search needs
+
+width-requires : tie.Need-width-requires
+width-requires c κs = search needs
+
+cast-width-2 : tie.Need-cast-width-2
+cast-width-2 c = omega (arith, sizes-small _ _ (c .before .before .sizes-of .ensures))
+
+width-requires-2 : tie.Need-width-requires-2
+width-requires-2 c κs = search needs
+
+add-result : tie.Need-add-result
+add-result c = omega (arith, one-to-four-bytes 1, one-to-four-bytes (c .before .before .before .sizes-of .result .count))
+
+add-result-2 : tie.Need-add-result-2
+add-result-2 c =
+    let sizes = c .before .before .before .before .sizes-of in
+    omega (arith, one-to-four-bytes 1, one-to-four-bytes (sizes .result .count), sizes-small _ _ (sizes .ensures))
+
+returns : tie.Need-returns
+returns c = omega (arith, sizes-claim _ _ (c .before .before .before .before .sizes-of .ensures))
+
+pub claim-width-spec : {M : Type 1} → statement M
+claim-width-spec =
+    tie.close
+    (tie.spec
+    sizes-of-requires
+    cast-width
+    width-requires
+    cast-width-2
+    width-requires-2
+    add-result
+    add-result-2
+    returns)

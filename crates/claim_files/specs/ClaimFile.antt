@@ -1,0 +1,89 @@
+-- A claim file (document 01, "Working memory and claims"): "A claim is: version 1; count 0..W; the first position; then each further position
+-- as its distance from the one before, at least 1. Every position is below W." The first position is its distance from 0, which may be 0;
+-- so one definition serves for the first and for the further ones.
+use Prim.Native.Nat.{ℕ, zero, suc, _+_, _-_, _≤_, _<_}
+use mathlib.Core.Path.{_≡_}
+use mathlib.Core.List.{List, [], _∷_, flatMap}
+use lib.ListN.{length}
+use lib.Seq.{sets}
+use Rattle.numbers.specs.Reading.{Out, got, bad, then, fieldAt, versionAt}
+use Rattle.numbers.specs.Writing.{bytesOf}
+use Rattle.files.specs.Rows.{push}
+use Rattle.files.specs.File.{atEnd}
+use Rattle.claim_files.specs.declared.reading.Claimed.{Claimed}
+use Rattle.claim_files.specs.declared.reading.Claimed.the-variants as claimed
+
+-- the largest W
+abbrev pub mostFacts : ℕ
+mostFacts = 2360320
+
+-- ---- reading, the first fault wins
+
+-- version 1; count 0..w
+unfoldable pub countAt : ℕ → List ℕ → Out ℕ
+countAt w s = then (versionAt s) λ _ next. fieldAt s next 0 (w + 1)
+
+-- a position below w, as its distance from `last`, at least `least`: else 4, at its first byte
+unfoldable pub positionAt : (w least last : ℕ) → List ℕ → ℕ → Out ℕ
+positionAt w least last s at = then (fieldAt s at least (w - last)) λ distance next. got (last + distance) next
+
+-- k positions; each one after the first is at least 1 from the one before
+unfoldable pub positionsAt : (w k least last : ℕ) → List ℕ → ℕ → Out (List ℕ)
+positionsAt w zero least last s at = got [] at
+positionsAt w (suc k) least last s at = then (positionAt w least last s at) λ p next. push p (positionsAt w k 1 p s next)
+
+-- the positions, and nothing after them
+unfoldable pub restAt : (w k : ℕ) → List ℕ → ℕ → Out (List ℕ)
+restAt w k s at = then (positionsAt w k 0 0 s at) λ ps next. atEnd ps s next
+
+-- the positions that the file s claims, where W is w
+unfoldable pub claimAt : ℕ → List ℕ → Out (List ℕ)
+claimAt w s = then (countAt w s) λ k next. restAt w k s next
+
+-- s is read as a claim
+pub record IsClaim (w : ℕ) (s : List ℕ) : Type 0 where
+  pub positions : List ℕ
+  pub next : ℕ
+  pub reads : claimAt w s ≡ got positions next
+
+-- ---- writing
+
+-- each position's distance from the one before, and the first one's from `last`
+unfoldable pub distancesFrom : ℕ → List ℕ → List ℕ
+distancesFrom last [] = []
+distancesFrom last (p ∷ ps) = (p - last) ∷ distancesFrom p ps
+
+-- the bytes of numbers, one after the other
+unfoldable pub bytesOfAll : List ℕ → List ℕ
+unfolding flatMap
+bytesOfAll ns = flatMap bytesOf ns
+
+-- the file of a claim: version 1; the count; the first position; the distances
+unfoldable pub claimBytes : List ℕ → List ℕ
+claimBytes ps = bytesOfAll (1 ∷ length ps ∷ distancesFrom 0 ps)
+
+-- ---- the positions of a claim
+
+-- strictly ascending, each below w, the first at least `least`
+abbrev pub AscendingFrom : ℕ → ℕ → List ℕ → Type 0
+AscendingFrom w least [] = Unit
+AscendingFrom w least (p ∷ ps) = (least ≤ p) × (p < w) × AscendingFrom w (p + 1) ps
+
+abbrev pub Ascending : ℕ → List ℕ → Type 0
+Ascending w ps = AscendingFrom w 0 ps
+
+-- ---- what the code answers
+
+abbrev pub claimedOf : Out (List ℕ) → Claimed
+claimedOf (got ps next) = claimed.Read (length ps)
+claimedOf (bad r) = claimed.Refused r
+
+-- the positions that were read; none where the file is refused
+abbrev pub positionsOf : Out (List ℕ) → List ℕ
+positionsOf (got ps next) = ps
+positionsOf (bad r) = []
+
+-- The claim of ps is written: `after` is `before` with its bytes at the start and no other byte changed, and r is how many bytes that is.
+pub record ClaimPut (ps before after : List ℕ) (r : ℕ) : Type 0 where
+  pub bytes : after ≡ sets before 0 (claimBytes ps)
+  pub count : r ≡ length (claimBytes ps)

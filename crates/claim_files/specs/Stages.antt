@@ -1,0 +1,32 @@
+-- What the private functions answer. Only their contracts cite this file.
+use mathlib.Core.Path.{_≡_}
+use mathlib.Core.List.{List, [], _∷_}
+use Prim.Native.Nat.{ℕ, _+_}
+use lib.ListN.{length}
+use lib.Seq.{sets}
+use Rattle.store.specs.Marking.{marked}
+use Rattle.claim_files.specs.declared.writing.Sizes.{Sizes}
+use Rattle.claim_files.specs.ClaimFile.{distancesFrom, bytesOfAll}
+
+-- the memory with a mark put at each position of a list
+unfoldable pub markedAll : List ℕ → List ℕ → List ℕ
+markedAll mem [] = mem
+markedAll mem (p ∷ ps) = markedAll (marked mem p) ps
+
+-- the first of a list, or `other` where it is empty
+abbrev pub firstOr : ℕ → List ℕ → ℕ
+firstOr other [] = other
+firstOr other (p ∷ ps) = p
+
+-- the bytes of the positions of a claim, the first as its distance from `last`
+unfoldable pub positionBytes : ℕ → List ℕ → List ℕ
+positionBytes last ps = bytesOfAll (distancesFrom last ps)
+
+-- how many positions there are, and how many bytes they take in a claim
+abbrev pub sizesOf : List ℕ → Sizes
+sizesOf ps = record { count = length ps; width = length (positionBytes 0 ps) }
+
+-- `after` is `before` with the bytes from `at` on, and r is the place past them
+pub record Put (bytes : List ℕ) (at : ℕ) (before after : List ℕ) (r : ℕ) : Type 0 where
+  pub same : after ≡ sets before at bytes
+  pub next : r ≡ at + length bytes
