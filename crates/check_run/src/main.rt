@@ -1,322 +1,168 @@
 // Runs the check on document 01's reference tables: in memory of 0xAA, with budgets at the count and one below it, and with memory one byte short.
+// Then counts the bytes that a check is to leave alone and did not, and runs it on tables at the limits of the sizes and just past them.
 use libc::STDOUT_FILENO;
+use report::answers::first_line;
+use report::answers::verdict_line;
 use rules::answer::Answer;
-use rules::answer::reply_of;
 use rules::check::check;
 use text::lines::ROOM;
-use text::lines::facts_line;
-use text::lines::possible_line;
-use text::lines::refused_line;
-use text::lines::safe_line;
-use verdict::search::Verdict;
 
-fn tell_safe() {
-    let mut line = [0u8; ROOM];
-    let n = safe_line(&mut line);
-    io::write_all(STDOUT_FILENO, &line[..n]);
-}
+// ---- a check, and what comes back
 
-fn tell_possible(row: usize, g: usize, locals: [usize; 4], threads: usize) {
-    let mut line = [0u8; ROOM];
-    let n = possible_line(row, g, locals, threads, &mut line);
-    io::write_all(STDOUT_FILENO, &line[..n]);
-}
-
-fn tell_count(count: usize) {
-    let mut line = [0u8; ROOM];
-    let n = facts_line(count, &mut line);
-    io::write_all(STDOUT_FILENO, &line[..n]);
-}
-
-fn tell_refusal(number: usize, value: usize) {
-    let mut line = [0u8; ROOM];
-    let n = refused_line(number, value, &mut line);
-    io::write_all(STDOUT_FILENO, &line[..n]);
-}
-
-fn tell_verdict(verdict: Verdict, threads: usize) {
-    match verdict {
-        Verdict::Safe => tell_safe(),
-        Verdict::Possible {
-            row,
-            g,
-            l0,
-            l1,
-            l2,
-            l3,
-        } => tell_possible(row, g, [l0, l1, l2, l3], threads),
-    }
-}
-
-// What came back for a table of so many threads.
-fn tell(answer: Answer, threads: usize) {
-    match answer {
-        Answer::Done { count, verdict } => {
-            tell_count(count);
-            tell_verdict(verdict, threads);
-        }
-        _ => {
-            let reply = reply_of(answer);
-            tell_refusal(reply.number as usize, reply.value);
-        }
-    }
-}
-
-// W of the largest table here.
+// W of the largest table that is checked here.
 const MOST: usize = 9600;
 
-// Checks a table of so many threads in a memory of so many bytes.
-fn run(table: &[u8], bytes: usize, budget: usize, threads: usize) {
-    let mut mem = [0xAAu8; MOST];
-    if bytes <= MOST {
+// What each byte of the memory is before a check. No mark is so large.
+const FILL: u8 = 0xAA;
+
+// Prints the lines of an answer.
+fn tell(table: &[u8], answer: Answer) {
+    let mut line = [0u8; ROOM];
+    let first = first_line(answer, &mut line);
+    io::write_all(STDOUT_FILENO, &line[..first]);
+    let second = verdict_line(table, answer, &mut line);
+    io::write_all(STDOUT_FILENO, &line[..second]);
+}
+
+// Checks a table in the first bytes of a memory, and prints the answer.
+fn check_in(table: &[u8], mem: &mut [u8], bytes: usize, budget: usize) {
+    if bytes <= mem.len() {
         let answer = check(table, &mut mem[..bytes], budget);
-        tell(answer, threads);
+        tell(table, answer);
     }
 }
 
+// Checks a table in a memory of so many bytes.
+fn run(table: &[u8], bytes: usize, budget: usize) {
+    let mut mem = [FILL; MOST];
+    check_in(table, &mut mem, bytes, budget);
+}
+
+// ---- the reference tables
+
 // W is 36, and there are 5 facts.
+const RECURSION: [u8; 29] = *b"\x01\x01\x02\x02\x01\x00\x00\x00\
+    \x01\x00\x00\x00\x01\x01\
+    \x01\x00\x00\x00\x00\x00\
+    \x01\x00\x01\x01\x00\x01\
+    \x01\x02\x01";
+
 fn recursion() {
-    let table: [u8; 29] = [
-        1,
-        1,
-        2,
-        2,
-        1,
-        0,
-        0,
-        0,
-        1,
-        0,
-        0,
-        0,
-        1,
-        1,
-        1,
-        0,
-        0,
-        0,
-        0,
-        0,
-        1,
-        0,
-        1,
-        1,
-        0,
-        1,
-        1,
-        2,
-        1,
-    ];
-    run(&table, MOST, 65536, 1);
-    run(&table, 36, 5, 1);
-    run(&table, 36, 4, 1);
-    run(&table, 35, 5, 1);
+    run(&RECURSION, MOST, 65536);
+    run(&RECURSION, 36, 5);
+    run(&RECURSION, 36, 4);
+    run(&RECURSION, 35, 5);
 }
 
 // W is 2, and there is one fact.
+const SMALLEST: [u8; 12] = [1, 1, 1, 1, 0, 0, 0, 0, 0, 0, 0, 0];
+
 fn smallest() {
-    let table: [u8; 12] = [1, 1, 1, 1, 0, 0, 0, 0, 0, 0, 0, 0];
-    run(&table, MOST, 1, 1);
-    run(&table, MOST, 0, 1);
-    run(&table, 1, 1, 1);
-    run(&table[..11], MOST, 1, 1);
-    run(&table[..0], MOST, 1, 1);
+    let table = SMALLEST;
+    run(&table, MOST, 1);
+    run(&table, MOST, 0);
+    run(&table, 1, 1);
+    run(&table[..11], MOST, 1);
+    run(&table[..0], MOST, 1);
     let failed: [u8; 12] = [1, 1, 1, 1, 0, 1, 0, 0, 0, 0, 0, 0];
-    run(&failed, MOST, 1, 1);
+    run(&failed, MOST, 1);
     let five_threads: [u8; 12] = [1, 5, 1, 1, 0, 0, 0, 0, 0, 0, 0, 0];
-    run(&five_threads, MOST, 1, 1);
+    run(&five_threads, MOST, 1);
     let longer: [u8; 13] = [1, 1, 1, 1, 0, 0, 0, 0, 0, 0, 0, 0, 0];
-    run(&longer, MOST, 1, 1);
+    run(&longer, MOST, 1);
 }
 
 // W is 9,600, and there are 57 facts.
 fn training() {
     let table = files::training::file();
-    run(&table, MOST, 57, 3);
-    run(&table, MOST, 56, 3);
-    run(&table, 9599, 57, 3);
+    run(&table, MOST, 57);
+    run(&table, MOST, 56);
+    run(&table, 9599, 57);
 }
 
-// Two threads of the training table with a true/false mutex: W is 2 * (16 + 28 * 28) = 1,600.
+// Two threads of the training table with a true/false mutex: W is 2 * (16 + 28 * 28) = 1,600. The header and the count of the step rows, four of these
+// to a line, and no row of another kind.
+const MUTEX: [u8; 173] = *b"\x01\x02\x04\x07\x00\x07\x01\x00\x00\x20\
+    \x00\x00\x00\x02\x01\x00\x00\x01\x00\x02\x00\x00\x02\x01\x03\x00\x00\x03\x00\x06\
+    \x00\x00\x04\x00\x05\x00\x01\x00\x03\x01\x00\x01\x01\x00\x02\x00\x01\x03\x01\x04\
+    \x00\x01\x04\x01\x05\x00\x02\x01\x02\x02\x00\x02\x02\x03\x03\x00\x02\x03\x02\x06\
+    \x00\x02\x04\x00\x05\x00\x03\x01\x02\x02\x00\x03\x03\x03\x04\x00\x03\x04\x01\x05\
+    \x01\x00\x00\x02\x01\x01\x00\x01\x00\x02\x01\x00\x02\x01\x03\x01\x00\x03\x00\x06\
+    \x01\x00\x04\x00\x05\x01\x01\x00\x03\x01\x01\x01\x01\x00\x02\x01\x01\x03\x01\x04\
+    \x01\x01\x04\x01\x05\x01\x02\x01\x02\x02\x01\x02\x02\x03\x03\x01\x02\x03\x02\x06\
+    \x01\x02\x04\x00\x05\x01\x03\x01\x02\x02\x01\x03\x03\x03\x04\x01\x03\x04\x01\x05\
+    \x00\x00\x00";
+
 fn mutex() {
-    let table: [u8; 173] = [
-        1,
-        2,
-        4,
-        7,
-        0,
-        7,
-        1,
-        0,
-        0,
-        32,
-        0,
-        0,
-        0,
-        2,
-        1,
-        0,
-        0,
-        1,
-        0,
-        2,
-        0,
-        0,
-        2,
-        1,
-        3,
-        0,
-        0,
-        3,
-        0,
-        6,
-        0,
-        0,
-        4,
-        0,
-        5,
-        0,
-        1,
-        0,
-        3,
-        1,
-        0,
-        1,
-        1,
-        0,
-        2,
-        0,
-        1,
-        3,
-        1,
-        4,
-        0,
-        1,
-        4,
-        1,
-        5,
-        0,
-        2,
-        1,
-        2,
-        2,
-        0,
-        2,
-        2,
-        3,
-        3,
-        0,
-        2,
-        3,
-        2,
-        6,
-        0,
-        2,
-        4,
-        0,
-        5,
-        0,
-        3,
-        1,
-        2,
-        2,
-        0,
-        3,
-        3,
-        3,
-        4,
-        0,
-        3,
-        4,
-        1,
-        5,
-        1,
-        0,
-        0,
-        2,
-        1,
-        1,
-        0,
-        1,
-        0,
-        2,
-        1,
-        0,
-        2,
-        1,
-        3,
-        1,
-        0,
-        3,
-        0,
-        6,
-        1,
-        0,
-        4,
-        0,
-        5,
-        1,
-        1,
-        0,
-        3,
-        1,
-        1,
-        1,
-        1,
-        0,
-        2,
-        1,
-        1,
-        3,
-        1,
-        4,
-        1,
-        1,
-        4,
-        1,
-        5,
-        1,
-        2,
-        1,
-        2,
-        2,
-        1,
-        2,
-        2,
-        3,
-        3,
-        1,
-        2,
-        3,
-        2,
-        6,
-        1,
-        2,
-        4,
-        0,
-        5,
-        1,
-        3,
-        1,
-        2,
-        2,
-        1,
-        3,
-        3,
-        3,
-        4,
-        1,
-        3,
-        4,
-        1,
-        5,
-        0,
-        0,
-        0,
-    ];
-    run(&table, MOST, 80, 2);
-    run(&table, MOST, 79, 2);
-    run(&table, 1599, 80, 2);
+    run(&MUTEX, MOST, 80);
+    run(&MUTEX, MOST, 79);
+    run(&MUTEX, 1599, 80);
+}
+
+// ---- the bytes that a check leaves alone
+
+// How many bytes of a memory from `from` on are no longer what they were before the check.
+fn changed(mem: &[u8; MOST], from: usize) -> usize {
+    let mut n = 0;
+    let mut i = from;
+    while i < MOST {
+        if mem[i] != FILL {
+            n += 1;
+        }
+        i += 1;
+    }
+    n
+}
+
+// Checks a table in the first bytes of a larger memory, and prints besides how many bytes of that are changed from `from` on.
+fn watch(table: &[u8], bytes: usize, budget: usize, from: usize) {
+    let mut mem = [FILL; MOST];
+    check_in(table, &mut mem, bytes, budget);
+    io::write_all(STDOUT_FILENO, b"changed ");
+    io::print_decimal(STDOUT_FILENO, changed(&mem, from) as u64);
+    io::write_all(STDOUT_FILENO, b"\n");
+}
+
+// Where the check is done or there are more facts than the budget, the first W bytes change, from 0xAA to 0 or 1, and those from W on do not; where the
+// memory is short or the table is refused, none does.
+fn left_alone() {
+    watch(&RECURSION, MOST, 5, 0);
+    watch(&RECURSION, MOST, 5, 36);
+    watch(&RECURSION, MOST, 4, 36);
+    watch(&RECURSION, 35, 5, 0);
+    let table = RECURSION;
+    watch(&table[..28], MOST, 5, 0);
+    watch(&MUTEX, MOST, 80, 1600);
+    watch(&MUTEX, MOST, 79, 1600);
+}
+
+// ---- the limits of the sizes
+
+// A table of each size at its limit, the other sizes as small as they may be, and the same with one more.
+fn limits() {
+    // threads: W is 8; each is at its start, and all are at the failed store
+    let threads: [u8; 15] = [1, 4, 1, 1, 0, 1, 0, 0, 0, 0, 0, 0, 0, 0, 0];
+    run(&threads, 8, 4);
+    let threads_5: [u8; 15] = [1, 5, 1, 1, 0, 1, 0, 0, 0, 0, 0, 0, 0, 0, 0];
+    run(&threads_5, 8, 4);
+    // shared stores: W is 512; a step from the last to the first
+    let shared: [u8; 17] = [1, 1, 16, 1, 0, 0, 15, 0, 1, 0, 15, 0, 0, 0, 0, 0, 0];
+    run(&shared, 512, 3);
+    let shared_17: [u8; 17] = [1, 1, 17, 1, 0, 0, 15, 0, 1, 0, 15, 0, 0, 0, 0, 0, 0];
+    run(&shared_17, 512, 3);
+    // local stores: W is 257; a step from the last to the first
+    let local: [u8; 17] = [1, 1, 1, 16, 0, 0, 0, 15, 1, 0, 0, 15, 0, 0, 0, 0, 0];
+    run(&local, 257, 3);
+    let local_17: [u8; 17] = [1, 1, 1, 17, 0, 0, 0, 15, 1, 0, 0, 15, 0, 0, 0, 0, 0];
+    run(&local_17, 257, 3);
+    // frames: W is 10; the last is pushed
+    let frames: [u8; 17] = [1, 1, 1, 1, 8, 0, 0, 0, 0, 1, 0, 0, 0, 0, 7, 0, 0];
+    run(&frames, 10, 2);
+    let frames_9: [u8; 17] = [1, 1, 1, 1, 9, 0, 0, 0, 0, 1, 0, 0, 0, 0, 7, 0, 0];
+    run(&frames_9, 10, 2);
+    // all four: W is 2,360,320
+    let all: [u8; 15] = [1, 4, 16, 16, 8, 0, 0, 0, 0, 0, 0, 0, 0, 0, 0];
+    run(&all, MOST, 65536);
 }
 
 fn main() {
@@ -324,4 +170,6 @@ fn main() {
     smallest();
     training();
     mutex();
+    left_alone();
+    limits();
 }

@@ -1,0 +1,61 @@
+-- `listing::put` is safe and ends: a byte for each turn of the loop, and each has room.
+-- Assumes nothing.
+use mathlib.Core.Path.{_≡_}
+use Prim.Native.Nat.{_-_, _≤_}
+use borrow.Author.Needs.{needs}
+use lib.ListN.{length}
+use Rattle.listing.proofs.put.Statement.{statement}
+use Rattle.listing.proofs.put.Tie as tie
+
+abbrev Inv-loop : tie.InvT-loop
+Inv-loop line page₀ at i₀ page i = (i ≤ length line) × (length page ≡ length page₀)
+
+abbrev μ-loop : tie.MeasureT-loop
+μ-loop line page₀ at i₀ page i = length line - i
+
+loop-holds : tie.Need-loop-holds Inv-loop μ-loop
+loop-holds c = search needs
+
+shared-slice-read-page : tie.Need-shared-slice-read-page Inv-loop μ-loop
+shared-slice-read-page c = search needs
+
+add-page : tie.Need-add-page Inv-loop μ-loop
+add-page c = search needs
+
+slice-write-page : tie.Need-slice-write-page Inv-loop μ-loop
+slice-write-page c = search needs
+
+add-i : tie.Need-add-i Inv-loop μ-loop
+add-i c = search needs
+
+loop-less : tie.Need-loop-less Inv-loop μ-loop
+loop-less c = search needs
+
+loop-again : tie.Need-loop-again Inv-loop μ-loop
+loop-again c = search needs
+
+add-result : tie.Need-add-result Inv-loop μ-loop
+add-result c = search needs
+
+same-length : tie.Need-same-length Inv-loop μ-loop
+same-length c = search needs
+
+returns : tie.Need-returns Inv-loop μ-loop
+returns c = search needs
+
+pub put-spec : {M : Type 1} → statement M
+put-spec =
+    tie.close
+    (tie.spec
+    Inv-loop
+    μ-loop
+    loop-holds
+    shared-slice-read-page
+    add-page
+    slice-write-page
+    add-i
+    loop-less
+    loop-again
+    add-result
+    same-length
+    returns)

@@ -1,0 +1,92 @@
+// The listing program (document 01, "Reference tables and results"): checks the table on standard input and prints what comes back.
+ghost use Prim.Native.Nat.{_+_, _≤_};
+ghost use lib.ListN.{length};
+use libc::STDIN_FILENO;
+use libc::STDOUT_FILENO;
+use report::answers::first_line;
+use report::answers::verdict_line;
+use report::facts::Next;
+use report::facts::next_fact;
+use rules::answer::Answer;
+use rules::check::check;
+use text::lines::ROOM;
+
+// How many facts a check may find. The working memory, `io::large_buffer`, has as many bytes.
+const BUDGET: usize = 65536;
+
+// Prints the lines of an answer.
+fn tell(table: &[u8], answer: Answer) {
+    let mut line = [0u8; ROOM];
+    let first = first_line(answer, &mut line);
+    io::write_all(STDOUT_FILENO, &line[..first]);
+    let second = verdict_line(table, answer, &mut line);
+    io::write_all(STDOUT_FILENO, &line[..second]);
+}
+
+// The room for lines that are printed together.
+const PAGE: usize = 4096;
+
+// Puts a line on a page from `at` on, and gives the place past it.
+fn put(line: &[u8], page: &mut [u8], at: usize) -> usize
+    requires { ⌜ at + length (now line) ≤ length (now page) ⌝ }
+    ensures { λ r. ⌜ r ≤ length (now (page .exit)) ⌝ }
+{
+    let mut i = 0;
+    while i < line.len() {
+        page[at + i] = line[i];
+        i += 1;
+    }
+    at + i
+}
+
+// Puts a line on a page after its first `used` bytes, and gives the place past it. A page without room for the line is printed first and begun anew.
+fn put_line(line: &[u8], page: &mut [u8], used: usize) -> usize
+    requires { ⌜ (length (now line) ≤ length (now page)) × (used ≤ length (now page)) ⌝ }
+    ensures { λ r. ⌜ r ≤ length (now (page .exit)) ⌝ }
+{
+    if line.len() <= page.len() - used {
+        return put(line, page, used);
+    }
+    io::write_all(STDOUT_FILENO, &page[..used]);
+    put(line, page, 0)
+}
+
+// Prints the facts that are marked, a line each.
+fn list(table: &[u8], mem: &[u8]) {
+    let mut line = [0u8; ROOM];
+    let mut page = [0u8; PAGE];
+    let mut used = 0;
+    let mut from = 0;
+    loop {
+        match next_fact(table, mem, from, &mut line) {
+            Next::Line { length, next } => {
+                used = put_line(&line[..length], &mut page, used);
+                from = next;
+            }
+            Next::End => {
+                io::write_all(STDOUT_FILENO, &page[..used]);
+                return;
+            }
+        }
+    }
+}
+
+// Checks a table, and prints the answer; the facts too, if the check is done.
+fn run(table: &[u8]) {
+    let mut mem = io::large_buffer();
+    let answer = check(table, &mut mem, BUDGET);
+    tell(table, answer);
+    match answer {
+        Answer::Done {
+            count: _,
+            verdict: _,
+        } => list(table, &mem),
+        _ => {}
+    }
+}
+
+fn main() {
+    let mut input = io::large_buffer();
+    let n = io::read_full(STDIN_FILENO, &mut input);
+    run(&input[..n]);
+}

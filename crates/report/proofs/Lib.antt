@@ -1,0 +1,9 @@
+-- The laws of a listing:
+--   AnswerLaws  the lines of an answer, by what the code has read of it
+--   ListedLaws  the search for the next mark, and what it comes to
+--   OfTable     of a table that was read: the lines are its facts', and after a finished check those of the facts that hold, none left out
+--   Unique      the answers and every byte of the buffers are determined
+pub mod AnswerLaws
+pub mod ListedLaws
+pub mod OfTable
+pub mod Unique

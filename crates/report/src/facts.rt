@@ -1,0 +1,74 @@
+// The lines of the facts, one at a call, in position order.
+ghost use Prim.Native.Nat.{_≤_};
+ghost use Rattle.store.specs.Marking.{room};
+ghost use Rattle.store.specs.Plans.{Planned};
+ghost use Rattle.verdict.specs.Search.{Least};
+ghost use Rattle.report.specs.Listed.{MarkFrom, NextIn, NextOf};
+use files::header::read_header;
+use files::rows::End;
+use store::marks::has;
+use store::plan::Plan;
+use store::plan::plan_of;
+use text::lines::ROOM;
+use text::lines::fact_line;
+
+// The line of a fact with its length, and the position past the fact; or the end of the list.
+pub enum Next {
+    Line { length: usize, next: usize },
+    End,
+}
+
+// The first mark at or past `from` among the first w; w if there is none.
+fn first_mark(mem: &[u8], w: usize, from: usize) -> usize
+    requires { ⌜ w ≤ room (now mem) ⌝ }
+    ensures { λ r. ⌜ Least (MarkFrom (now (mem .entry)) w from) w r ⌝ }
+{
+    let mut p = from;
+    while p < w {
+        if has(mem, p) {
+            return p;
+        }
+        p += 1;
+    }
+    w
+}
+
+// The next fact of a table with plan s.
+fn next_in(s: Plan, mem: &[u8], from: usize, out: &mut [u8; ROOM]) -> Next
+    requires { ⌜ Planned s ⌝ }
+    ensures { λ r. ⌜ NextIn s (now (mem .entry)) from (now (out .entry)) r (now (out .exit)) ⌝ }
+{
+    let w = s.w;
+    if mem.len() < w {
+        return Next::End;
+    }
+    let p = first_mark(mem, w, from);
+    if p == w {
+        return Next::End;
+    }
+    let length = fact_line(s, p, out);
+    let next = p + 1;
+    Next::Line { length, next }
+}
+
+// Writes the line of the first fact at or past position `from` that is marked in a table's working memory. It is the end, and nothing is written, where
+// there is none, where the memory is shorter than W, and where the table's header is refused.
+pub fn next_fact(table: &[u8], mem: &[u8], from: usize, out: &mut [u8; ROOM]) -> Next
+    ensures { λ r. ⌜ NextOf (now (table .entry)) (now (mem .entry)) from (now (out .entry)) r (now (out .exit)) ⌝ }
+{
+    let read = read_header(table);
+    let header = read.header;
+    let sizes = header.sizes;
+    let end = read.end;
+    match end {
+        End::Past { next: _ } => {
+            let threads = sizes.threads as usize;
+            let shared = sizes.shared as usize;
+            let locals = sizes.locals as usize;
+            let frames = sizes.frames as usize;
+            let s = plan_of(threads, shared, locals, frames);
+            next_in(s, mem, from, out)
+        }
+        End::Refused { refusal: _ } => Next::End,
+    }
+}
