@@ -1,13 +1,12 @@
--- Rules 4, 5 and 7: the uses of a row at positions are the uses of its rule. Use j of a row's line is the one from pair j.
+-- Rules 4, 5 and 7: the uses of rows at positions, on the facts of a thread from one pair, are the uses of their rules.
 -- Assumes nothing.
-use mathlib.Core.Path.{_≡_, sym, subst, _∙_}
+use mathlib.Core.Path.{refl, sym, subst}
 use mathlib.Core.Logic.{inl, inr}
 use mathlib.Core.List.{List, List·Memᴰ}
-use Prim.Native.Nat.{ℕ, _+_, _*_, _/_, _%_, _<_}
-use native.Mathlib.Omega.{arith}
-use lib.Arith.{digits-lt}
-use Rattle.files.specs.Table.{Table, Sound, Step, Push, Pop}
-use Rattle.model.specs.Rules.{G, P, Q, step-P, step-G, push-Q, push-P, pop-P}
+use Prim.Native.Nat.{ℕ, _+_, _*_, _<_}
+use Rattle.files.specs.Table.{Table, Sound, Step, Push, Pop, StepFits, PushFits, PopFits}
+use Rattle.model.specs.Taken.{Steps, Pushes, Pops}
+use Rattle.model.specs.Rules.{Fact, G, P, Q, step-P, step-G, push-Q, push-P, pop-P}
 use Rattle.model.specs.Positions.{pos}
 use Rattle.model.specs.Memory.{Marked}
 use Rattle.store.specs.declared.plan.Plan.{Plan}
@@ -15,151 +14,103 @@ use Rattle.store.specs.declared.rows.Row.{Row}
 use Rattle.store.specs.Marking.{Has}
 use Rattle.store.specs.Plans.{planOf}
 use Rattle.store.specs.Reading.{rowOf, stepOf, pushOf, popOf, Same}
-use Rattle.store.proofs.MarkLaws.{has-marked}
-use Rattle.store.proofs.PlanIsModel.{pos-g, pos-p, pos-q, pos-p-from, pos-q-from, pair-fits}
+use Rattle.store.proofs.PlanIsModel.{pos-g, pos-p-row, pos-q-row}
+use Rattle.engine.specs.declared.row_rules.Kind.{Kind}
 use Rattle.engine.specs.declared.row_rules.Kind.the-variants.{Step as Stepping, Push as Pushing, Pop as Popping}
-use Rattle.engine.specs.RuleUses.{StepUse, PushUse, RowUses}
-use Rattle.engine.proofs.Bridge.{upto-at, Yielded, Used, used-from}
+use Rattle.engine.specs.RuleUses.{StepUse, PushUse, PopUse, KindUse, RowUses}
+use Rattle.engine.proofs.Bridge.{Used, upto-at, used-from, Yielded, one-yields, g-stands, p-stands, q-stands}
 
-module _ (T : Table) (sound : Sound T) (n : ℕ) (rows : List ℕ) (m : List ℕ) where
-  abbrev s : Plan
-  s = planOf T
+-- ---- the first n rows and the table's list
 
-  -- the P fact from pair j to the place of row r is marked
-  from-P : (r : Row) {j x : ℕ} → r .t < T .n → r .g < T .G → r .l < T .L → j < T .G * T .L
-      → x ≡ pos T (P (r .t) (j / T .L) (j % T .L) (r .g) (r .l)) → Has m x → Marked T m (P (r .t) (j / T .L) (j % T .L) (r .g) (r .l))
-  from-P r t g l lt e h = let a = pair-fits T sound lt in has-marked _ (t, a .0, a .1, g, l) (sym e) h
+module _ {A : Type 0} {of : Row → A} {rows : List ℕ} {n : ℕ} {l : List A} (same : Same of rows n l) where
+  -- what holds of the first n rows holds of every row of the list
+  each : (B : A → Type 0) → ((i : ℕ) → i < n → B (of (rowOf rows i))) → (z : A) → List·Memᴰ z l → B z
+  each B h z mem = let nth = same .fro z mem in subst B (nth .here) (h (nth .i) (nth .lt))
 
-  -- ---- rule 4
+  -- a use of one of the first n rows is a use of a row of the list, for the row's own thread
+  of-one : {B : Type 0} (kind : Kind) (s : Plan) (t a : ℕ) {q x y : ℕ} → ((r : Row) → List·Memᴰ (of r) l → KindUse kind s (r .t) a r q x y → B)
+      → RowUses kind s t a rows n q x y → B
+  of-one kind s t a {q} {x} {y} h u =
+      let (e, v) = u .given in
+      let r = rowOf rows (u .k) in
+      h r (same .to (u .k) (u .lt)) (subst (λ (z : ℕ). KindUse kind s z a r q x y) (sym e) v)
 
-  module _ (same : Same stepOf rows n (T .steps)) where
-    -- what the rule gives for a step row, from the pair of a and b
-    abbrev StepGives : ℕ → ℕ → Step → Type 0
-    StepGives a b z =
-        Marked T m (P (z .t) a b (z .g) (z .l))
-        → Used (RowUses Stepping s rows n) m (pos T (P (z .t) a b (z .g′) (z .l′)))
-        × Used (RowUses Stepping s rows n) m (pos T (G (z .t) (z .g) (z .g′)))
+-- ---- from uses of the rules, by the facts from the pair of a and b
 
-    step-gives : (a b i : ℕ) → i < n → StepGives a b (stepOf (rowOf rows i))
-    step-gives a b i lt h =
-        let r = rowOf rows i in
-        let j = a * T .L + b in
-        let jt = digits-lt (h .fits .1) (h .fits .2) in
-        let e = pos-p T (r .t) a b (r .g) (r .l) in (
-          used-from h (upto-at i lt (inl (upto-at j jt (e, e, pos-p T (r .t) a b (r .u) (r .v))))),
-          used-from h (upto-at i lt (inr (upto-at j jt (e, e, pos-g T (r .t) (r .g) (r .u) ∙ omega arith)))),
-        )
+module _ (T : Table) (m : List ℕ) (n : ℕ) (rows : List ℕ) (a b : ℕ) where
+  -- the rows of t give f
+  abbrev Gives : Kind → ℕ → Fact → Type 0
+  Gives kind t f = Used (RowUses kind (planOf T) t (a * T .L + b) rows n) m (pos T f)
 
-    pub step-used : (a b : ℕ) (z : Step) → List·Memᴰ z (T .steps) → StepGives a b z
-    step-used a b z mem = let nth = same .fro z mem in subst (StepGives a b) (nth .here) (step-gives a b (nth .i) (nth .lt))
+  -- rule 4
+  abbrev StepGives : Step → Type 0
+  StepGives z =
+      Marked T m (P (z .t) a b (z .g) (z .l))
+      → Gives Stepping (z .t) (P (z .t) a b (z .g′) (z .l′)) × Gives Stepping (z .t) (G (z .t) (z .g) (z .g′))
 
-    pub step-yields : (q x y : ℕ) → RowUses Stepping s rows n q x y → Has m x → Yielded T m y
-    step-yields q x y u h = go (u .given)
-      where
-        go : StepUse s (rowOf rows (u .k)) q x y → Yielded T m y
-        go (inl v) =
-            let r = rowOf rows (u .k) in
-            let row = same .to (u .k) (u .lt) in
-            let ok = sound .steps .fits _ row in
-            let j = pair-fits T sound (v .lt) in
-            let p = from-P r (ok .t) (ok .g) (ok .l) (v .lt) (v .given .1 ∙ sym (pos-p-from T _ _ _ _)) h in
-            record {
-              f = P (r .t) (v .k / T .L) (v .k % T .L) (r .u) (r .v);
-              fits = (ok .t, j .0, j .1, ok .g′, ok .l′);
-              here = pos-p-from T _ _ _ _ ∙ sym (v .given .2);
-              yields = step-P p (record { row = row; taken = tt });
-            }
-        go (inr v) =
-            let r = rowOf rows (u .k) in
-            let row = same .to (u .k) (u .lt) in
-            let ok = sound .steps .fits _ row in
-            let p = from-P r (ok .t) (ok .g) (ok .l) (v .lt) (v .given .1 ∙ sym (pos-p-from T _ _ _ _)) h in
-            record {
-              f = G (r .t) (r .g) (r .u);
-              fits = (ok .t, ok .g, ok .g′);
-              here = pos-g T _ _ _ ∙ omega (arith, v .given .2);
-              yields = step-G p (record { row = row; taken = tt });
-            }
+  pub step-used : Same stepOf rows n (T .steps) → (z : Step) → List·Memᴰ z (T .steps) → StepGives z
+  step-used same =
+      each same StepGives (λ i lt h.
+      let r = rowOf rows i in
+      let e = pos-p-row T (r .t) a b (r .g) (r .l) in (
+        used-from h (upto-at i lt (refl, inl (e, e, pos-p-row T (r .t) a b (r .u) (r .v)))),
+        used-from h (upto-at i lt (refl, inr (e, e, pos-g T (r .t) (r .g) (r .u)))),
+      ))
 
-  -- ---- rule 5
+  -- rule 5
+  abbrev PushGives : Push → Type 0
+  PushGives z =
+      Marked T m (P (z .t) a b (z .g) (z .l))
+      → Gives Pushing (z .t) (Q (z .t) a b (z .f) (z .g) (z .l′)) × Gives Pushing (z .t) (P (z .t) (z .g) (z .l′) (z .g) (z .l′))
 
-  module _ (same : Same pushOf rows n (T .pushes)) where
-    abbrev PushGives : ℕ → ℕ → Push → Type 0
-    PushGives a b z =
-        Marked T m (P (z .t) a b (z .g) (z .l))
-        → Used (RowUses Pushing s rows n) m (pos T (Q (z .t) a b (z .f) (z .g) (z .l′)))
-        × Used (RowUses Pushing s rows n) m (pos T (P (z .t) (z .g) (z .l′) (z .g) (z .l′)))
+  pub push-used : Same pushOf rows n (T .pushes) → (z : Push) → List·Memᴰ z (T .pushes) → PushGives z
+  push-used same =
+      each same PushGives (λ i lt h.
+      let r = rowOf rows i in
+      let e = pos-p-row T (r .t) a b (r .g) (r .l) in (
+        used-from h (upto-at i lt (refl, inl (e, e, pos-q-row T (r .t) a b (r .v) (r .g) (r .u)))),
+        used-from h (upto-at i lt (refl, inr (e, e, pos-p-row T (r .t) (r .g) (r .u) (r .g) (r .u)))),
+      ))
 
-    push-gives : (a b i : ℕ) → i < n → PushGives a b (pushOf (rowOf rows i))
-    push-gives a b i lt h =
-        let r = rowOf rows i in
-        let j = a * T .L + b in
-        let jt = digits-lt (h .fits .1) (h .fits .2) in
-        let e = pos-p T (r .t) a b (r .g) (r .l) in (
-          used-from h (upto-at i lt (inl (upto-at j jt (e, e, pos-q T (r .t) a b (r .v) (r .g) (r .u))))),
-          used-from h (upto-at i lt (inr (upto-at j jt (e, e, pos-p T (r .t) (r .g) (r .u) (r .g) (r .u) ∙ omega arith)))),
-        )
+  -- rule 7
+  abbrev PopGives : Pop → Type 0
+  PopGives z = Marked T m (Q (z .t) a b (z .f) (z .g) (z .l)) → Gives Popping (z .t) (P (z .t) a b (z .g) (z .l′))
 
-    pub push-used : (a b : ℕ) (z : Push) → List·Memᴰ z (T .pushes) → PushGives a b z
-    push-used a b z mem = let nth = same .fro z mem in subst (PushGives a b) (nth .here) (push-gives a b (nth .i) (nth .lt))
+  pub pop-used : Same popOf rows n (T .pops) → (z : Pop) → List·Memᴰ z (T .pops) → PopGives z
+  pop-used same =
+      each same PopGives (λ i lt h.
+      let r = rowOf rows i in
+      let e = pos-q-row T (r .t) a b (r .u) (r .g) (r .l) in
+      used-from h (upto-at i lt (refl, (e, e, pos-p-row T (r .t) a b (r .g) (r .v)))))
 
-    pub push-yields : (q x y : ℕ) → RowUses Pushing s rows n q x y → Has m x → Yielded T m y
-    push-yields q x y u h = go (u .given)
-      where
-        go : PushUse s (rowOf rows (u .k)) q x y → Yielded T m y
-        go (inl v) =
-            let r = rowOf rows (u .k) in
-            let row = same .to (u .k) (u .lt) in
-            let ok = sound .pushes .fits _ row in
-            let j = pair-fits T sound (v .lt) in
-            let p = from-P r (ok .t) (ok .g) (ok .l) (v .lt) (v .given .1 ∙ sym (pos-p-from T _ _ _ _)) h in
-            record {
-              f = Q (r .t) (v .k / T .L) (v .k % T .L) (r .v) (r .g) (r .u);
-              fits = (ok .t, j .0, j .1, ok .f, ok .g, ok .l′);
-              here = pos-q-from T _ _ _ _ _ ∙ sym (v .given .2);
-              yields = push-Q p (record { row = row; taken = tt });
-            }
-        go (inr v) =
-            let r = rowOf rows (u .k) in
-            let row = same .to (u .k) (u .lt) in
-            let ok = sound .pushes .fits _ row in
-            let p = from-P r (ok .t) (ok .g) (ok .l) (v .lt) (v .given .1 ∙ sym (pos-p-from T _ _ _ _)) h in
-            record {
-              f = P (r .t) (r .g) (r .u) (r .g) (r .u);
-              fits = (ok .t, ok .g, ok .l′, ok .g, ok .l′);
-              here = pos-p T (r .t) (r .g) (r .u) (r .g) (r .u) ∙ omega (arith, v .given .2);
-              yields = push-P p (record { row = row; taken = tt });
-            }
+-- ---- to uses of the rules, on the facts from pair a: by one row, and by the first n
 
-  -- ---- rule 7
+module _ {T : Table} (sound : Sound T) {m : List ℕ} {a q x y : ℕ} (ah : a < T .G * T .L) (h : Has m x) where
+  -- rule 4
+  step-one : (r : Row) → StepFits T (stepOf r) → Steps T (r .t) (r .g) (r .l) (r .u) (r .v) → StepUse (planOf T) (r .t) a r q x y → Yielded T m y
+  step-one r ok row (inl u) =
+      one-yields (p-stands sound (ok .t) ah (ok .g) (ok .l)) (p-stands sound (ok .t) ah (ok .g′) (ok .l′)) (λ p. step-P p row) u h
+  step-one r ok row (inr u) =
+      one-yields (p-stands sound (ok .t) ah (ok .g) (ok .l)) (g-stands (ok .t) (ok .g) (ok .g′)) (λ p. step-G p row) u h
 
-  module _ (same : Same popOf rows n (T .pops)) where
-    abbrev PopGives : ℕ → ℕ → Pop → Type 0
-    PopGives a b z = Marked T m (Q (z .t) a b (z .f) (z .g) (z .l)) → Used (RowUses Popping s rows n) m (pos T (P (z .t) a b (z .g) (z .l′)))
+  pub step-yields : (t : ℕ) {n : ℕ} {rows : List ℕ} → Same stepOf rows n (T .steps) → RowUses Stepping (planOf T) t a rows n q x y → Yielded T m y
+  step-yields t same = of-one same Stepping (planOf T) t a (λ r row. step-one r (sound .steps .fits _ row) (record { row = row; taken = tt }))
 
-    pop-gives : (a b i : ℕ) → i < n → PopGives a b (popOf (rowOf rows i))
-    pop-gives a b i lt h =
-        let r = rowOf rows i in
-        let e = pos-q T (r .t) a b (r .u) (r .g) (r .l) in
-        used-from h
-        (upto-at i lt (upto-at (a * T .L + b) (digits-lt (h .fits .1) (h .fits .2)) (e, e, pos-p T (r .t) a b (r .g) (r .v))))
+  -- rule 5
+  push-one : (r : Row) → PushFits T (pushOf r) → Pushes T (r .t) (r .g) (r .l) (r .u) (r .v) → PushUse (planOf T) (r .t) a r q x y → Yielded T m y
+  push-one r ok row (inl u) =
+      one-yields (p-stands sound (ok .t) ah (ok .g) (ok .l)) (q-stands sound (ok .t) ah (ok .f) (ok .g) (ok .l′)) (λ p. push-Q p row) u h
+  push-one r ok row (inr u) =
+      one-yields (p-stands sound (ok .t) ah (ok .g) (ok .l))
+      (record { fits = (ok .t, ok .g, ok .l′, ok .g, ok .l′); here = pos-p-row T (r .t) (r .g) (r .u) (r .g) (r .u) }) (λ p. push-P p row) u h
 
-    pub pop-used : (a b : ℕ) (z : Pop) → List·Memᴰ z (T .pops) → PopGives a b z
-    pop-used a b z mem = let nth = same .fro z mem in subst (PopGives a b) (nth .here) (pop-gives a b (nth .i) (nth .lt))
+  pub push-yields : (t : ℕ) {n : ℕ} {rows : List ℕ} → Same pushOf rows n (T .pushes) → RowUses Pushing (planOf T) t a rows n q x y → Yielded T m y
+  push-yields t same = of-one same Pushing (planOf T) t a (λ r row. push-one r (sound .pushes .fits _ row) (record { row = row; taken = tt }))
 
-    pub pop-yields : (q x y : ℕ) → RowUses Popping s rows n q x y → Has m x → Yielded T m y
-    pop-yields q x y u h =
-        let v = u .given in
-        let r = rowOf rows (u .k) in
-        let row = same .to (u .k) (u .lt) in
-        let ok = sound .pops .fits _ row in
-        let j = pair-fits T sound (v .lt) in
-        let p =
-        has-marked {m = m} (Q (r .t) (v .k / T .L) (v .k % T .L) (r .u) (r .g) (r .l)) (ok .t, j .0, j .1, ok .f, ok .g, ok .l)
-        (pos-q-from T _ _ _ _ _ ∙ sym (v .given .1)) h in
-        record {
-          f = P (r .t) (v .k / T .L) (v .k % T .L) (r .g) (r .v);
-          fits = (ok .t, j .0, j .1, ok .g, ok .l′);
-          here = pos-p-from T _ _ _ _ ∙ sym (v .given .2);
-          yields = pop-P p (record { row = row; taken = tt });
-        }
+  -- rule 7
+  pop-one : (r : Row) → PopFits T (popOf r) → Pops T (r .t) (r .g) (r .l) (r .u) (r .v) → PopUse (planOf T) (r .t) a r q x y → Yielded T m y
+  pop-one r ok row u =
+      one-yields (q-stands sound (ok .t) ah (ok .f) (ok .g) (ok .l)) (p-stands sound (ok .t) ah (ok .g) (ok .l′)) (λ p. pop-P p row) u h
+
+  pub pop-yields : (t : ℕ) {n : ℕ} {rows : List ℕ} → Same popOf rows n (T .pops) → RowUses Popping (planOf T) t a rows n q x y → Yielded T m y
+  pop-yields t same = of-one same Popping (planOf T) t a (λ r row. pop-one r (sound .pops .fits _ row) (record { row = row; taken = tt }))

@@ -26,6 +26,7 @@ use Rattle.engine.specs.RuleUses.{AllUses}
 use Rattle.engine.specs.Passing.{Grew, none, more}
 use Rattle.engine.specs.Answers.{Exceeds}
 use Rattle.engine.proofs.PassLaws.{grew-has}
+use Rattle.engine.proofs.Bridge.{used-lacks}
 use Rattle.engine.proofs.UsesAreYields.{yields-used, lacks-yields}
 
 -- c facts are marked, all of them derivable
@@ -85,9 +86,7 @@ module _ {T : Table} (sound : Sound T) {n : RowCounts} {st pu po : List ℕ} (re
 
         go : Dec (Has m (pos T f)) → Marked T m f
         go (yes i) = has-marked f fits refl i
-        go (no i) =
-            let u = yields-used sound reads m f y in
-            absurd (closed (pos T f) (record { q = u .q; x = u .x; given = u .given; has-q = u .has-q; has-x = u .has-x; not = i }))
+        go (no i) = absurd (closed (pos T f) (used-lacks (yields-used sound reads m f y) i))
 
     pub held : Starts T (Marked T m) → Relations T m
     held starts = relations-held sound (h .bits) (h .derives) (h .long) (record { starts = starts; closed = nothing-lacks })

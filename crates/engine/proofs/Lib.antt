@@ -1,8 +1,7 @@
 -- The engine's laws, from uses at positions up to what a run comes to:
 --   GivenLaws         what is given of a sound table is in range
 --   PassLaws          how passes over sets of uses are put together
---   Parts             the uses of each rule are among all
---   RelationPlaces    the rows of facts of a thread are in the memory
+--   EmptyRows         a row of facts with no mark gives nothing
 --   Bridge            what joins uses at positions with uses of the rules
 --   BridgeRows        rules 4, 5 and 7
 --   BridgeCalls       rule 6
@@ -14,8 +13,7 @@
 --   Determined        the answers are determined
 pub mod GivenLaws
 pub mod PassLaws
-pub mod Parts
-pub mod RelationPlaces
+pub mod EmptyRows
 pub mod Bridge
 pub mod BridgeRows
 pub mod BridgeCalls

@@ -6,14 +6,14 @@ use mathlib.Core.Path.{_≡_, refl, sym, subst, _∙_}
 use mathlib.Core.Bool.{Bool, true, false}
 use mathlib.Core.Logic.{_⊎_, inl, inr}
 use mathlib.Core.List.{List}
-use Prim.Native.Nat.{ℕ, _+_, _*_, _<_, _≤_}
+use Prim.Native.Nat.{ℕ, _+_, _<_, _≤_}
 use native.Mathlib.Nat.{add-zero, add-suc, not-suc-le-zero}
 use native.Mathlib.Decide.{decLt}
 use native.Mathlib.Omega.{arith}
-use Rattle.store.specs.Marking.{room, Has, marked}
+use Rattle.store.specs.Marking.{room, Has, SomeIn, LacksIn, marked}
 use Rattle.store.proofs.MarkLaws.{put-room, has-kept}
 use Rattle.engine.specs.declared.lines.Pass.{Pass}
-use Rattle.engine.specs.Uses.{Uses, Single, With, Under, Either, Upto, Line, Block, Lacks}
+use Rattle.engine.specs.Uses.{Uses, Single, With, Under, Either, Upto, Line, Lacks}
 use Rattle.engine.specs.Passing.{Grew, none, more, Puts, Looked, Swept, looks, puts, Settled}
 
 -- ---- traces of puts
@@ -221,11 +221,8 @@ flat-upto f q x y u = record { k = u .k; lt = u .lt; given = f _ _ _ _ (u .given
 flat-single : (x y : ℕ) → Flat (Single x y)
 flat-single x y q x′ y′ u = (u .1, u .1, u .2)
 
-pub flat-line : (x dx y dy n : ℕ) → Flat (Upto (Line x dx y dy) n)
-flat-line x dx y dy n = flat-upto (λ i. flat-single (x + i * dx) (y + i * dy))
-
-pub flat-block : (x y d n i : ℕ) → Flat (Upto (Block x y d n) i)
-flat-block x y d n i = flat-upto (λ j. flat-line (x + j * d) 1 (y + j * d) 1 n)
+pub flat-line : (x y n : ℕ) → Flat (Upto (Line x y) n)
+flat-line x y n = flat-upto (λ i. flat-single (x + i) (y + i))
 
 pub flat-under : {A : Type 0} {U : Uses} → Flat U → Flat (Under A U)
 flat-under f q x y u = (u .0, f q x y (u .1))
@@ -288,8 +285,66 @@ module _ {x y : ℕ} {b : Pass} {m : List ℕ} where
   pub one-more : {put : Bool} → put ≡ false → b .best ≤ y → Swept (Single x y) put b b m m
   one-more e le = rw e (looks (looked-one refl (omega arith) le (inl refl)))
 
+-- ---- a line of uses
+
+-- no mark lacks its partner
+pub line-idle : (x y : ℕ) {n : ℕ} {b : Pass} {m : List ℕ} (put : Bool) → ¬ LacksIn m x y n → Swept (Upto (Line x y) n) put b b m m
+line-idle x y put n =
+    swept-idle put λ z l.
+    let u = l .given in
+    n (record { j = u .k; lt = u .lt; here = (subst (Has _) (u .given .1) (l .has-x), λ h. l .not (subst (Has _) (sym (u .given .2)) h)) })
+
 -- a line from where its ends are known to be
-pub line-at : (dx dy : ℕ) {x x′ y y′ n : ℕ} {put : Bool} {b r : Pass} {m m′ : List ℕ} → x ≡ x′ → y ≡ y′
-    → Swept (Upto (Line x dx y dy) n) put b r m m′ → Swept (Upto (Line x′ dx y′ dy) n) put b r m m′
-line-at dx dy {x} {x′} {y} {y′} {n} {put} {b} {r} {m} {m′} p q s =
-    subst (λ z. Swept (Upto (Line x′ dx z dy) n) put b r m m′) q (subst (λ z. Swept (Upto (Line z dx y dy) n) put b r m m′) p s)
+pub line-at : {x x′ y y′ n : ℕ} {put : Bool} {b r : Pass} {m m′ : List ℕ} → x ≡ x′ → y ≡ y′ → Swept (Upto (Line x y) n) put b r m m′
+    → Swept (Upto (Line x′ y′) n) put b r m m′
+line-at {x′} {y} {n} {put} {b} {r} {m} {m′} p q s =
+    subst (λ z. Swept (Upto (Line x′ z) n) put b r m m′) q (subst (λ z. Swept (Upto (Line z y) n) put b r m m′) p s)
+
+-- one use, likewise
+pub one-at : {x x′ y y′ : ℕ} {put : Bool} {b r : Pass} {m m′ : List ℕ} → x ≡ x′ → y ≡ y′ → Swept (Single x y) put b r m m′
+    → Swept (Single x′ y′) put b r m m′
+one-at {x′} {y} {put} {b} {r} {m} {m′} p q s =
+    subst (λ z. Swept (Single x′ z) put b r m m′) q (subst (λ z. Swept (Single z y) put b r m m′) p s)
+
+-- ---- a row of facts with no mark
+
+-- if every use from marks has one of them among the n from x on, and there is none, then nothing lacks
+pub swept-empty : {U : Uses} (x : ℕ) {n : ℕ} {b : Pass} {m : List ℕ} (put : Bool)
+    → ((q z y : ℕ) → U q z y → Has m q → Has m z → SomeIn m x n) → ¬ SomeIn m x n → Swept U put b b m m
+swept-empty x put needs n = swept-idle put (λ y l. n (needs _ _ _ (l .given) (l .has-q) (l .has-x)))
+
+-- ---- the same pass again, until it puts nothing
+
+-- passes that went before: none; or some that put
+pub data Went (U : Uses) : Bool → Pass → Pass → List ℕ → List ℕ → Type 0 where
+  not-yet : {put : Bool} {b : Pass} {m : List ℕ} → Went U put b b m m
+  on : {b r : Pass} {m m′ : List ℕ} → Puts U b r m m′ → Went U true b r m m′
+
+module _ {U : Uses} where
+  pub went-room : {put : Bool} {b r : Pass} {m m′ : List ℕ} → Went U put b r m m′ → room m′ ≡ room m
+  went-room not-yet = refl
+  went-room (on p) = puts-room p
+
+  -- a pass that put something
+  pub went-on : {put : Bool} {b r s : Pass} {m m₁ m₂ : List ℕ} → Went U put b r m m₁ → Swept U put r s m₁ m₂ → ¬ (s .left ≡ r .left)
+      → Went U put b s m m₂
+  went-on w (looks k) n = absurd (n (k .left))
+  went-on not-yet (puts p done) n = on p
+  went-on (on q) (puts p done) n = on (puts-then q p)
+
+  -- and so fewer are left
+  pub went-less : {put : Bool} {r s : Pass} {m₁ m₂ : List ℕ} → Swept U put r s m₁ m₂ → ¬ (s .left ≡ r .left) → s .left < r .left
+  went-less (looks k) n = absurd (n (k .left))
+  went-less {r} {s} (puts p done) n = go (decLt (s .left) (r .left))
+    where
+      go : Dec (s .left < r .left) → s .left < r .left
+      go (yes l) = l
+      go (no l) = absurd (n (omega (arith, puts-le p)))
+
+  -- the last pass
+  pub went-last : {put : Bool} {b r s : Pass} {m m₁ m₂ : List ℕ} → Went U put b r m m₁ → Swept U put r s m₁ m₂ → Swept U put b s m m₂
+  went-last not-yet s = s
+  went-last {b} {r} {s} {m} (on q) (puts p done) =
+      puts (puts-then q p) λ h e y l.
+      let same : r .left ≡ b .left = omega (arith, puts-le q, puts-le p) in
+      done h (omega arith) y (subst (λ z. Lacks U z y) (sym (puts-none q same)) l)

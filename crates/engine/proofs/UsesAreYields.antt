@@ -4,52 +4,84 @@
 use mathlib.Core.Path.{_≡_, sym, ap, subst, _∙_}
 use mathlib.Core.Logic.{_⊎_, inl, inr}
 use mathlib.Core.List.{List}
-use Prim.Native.Nat.{ℕ, _<_, _≤_}
+use Prim.Native.Nat.{ℕ, _+_, _*_, _/_, _%_, _<_, _≤_}
 use native.Mathlib.Omega.{arith}
+use lib.Arith.{digits-lt}
 use Rattle.files.specs.Table.{Table, Sound, W}
-use Rattle.model.specs.Rules.{Fact, Yields, env-P, env-Q, step-P, step-G, push-Q, push-P, call, pop-P}
+use Rattle.model.specs.Rules.{Fact, P, Q, Yields, env-P, env-Q, step-P, step-G, push-Q, push-P, call, pop-P}
 use Rattle.model.specs.Positions.{pos, factAt}
 use Rattle.model.specs.Memory.{Marked}
 use Rattle.model.specs.Claims.{Missing}
 use Rattle.model.proofs.Positions.{pos-lt, factAt-pos, factAt-stands}
+use Rattle.store.specs.declared.plan.Plan.{Plan}
 use Rattle.store.specs.declared.rows.RowCounts.{RowCounts}
 use Rattle.store.specs.Marking.{Has}
 use Rattle.store.specs.Plans.{planOf}
 use Rattle.store.specs.Reading.{Reads}
-use Rattle.store.proofs.MarkLaws.{marked-has, has-marked}
+use Rattle.store.proofs.MarkLaws.{marked-has}
+use Rattle.store.proofs.PlanIsModel.{pos-p-row, pos-q-row}
 use Rattle.engine.specs.declared.lines.Pass.{Pass}
 use Rattle.engine.specs.Uses.{Uses, Lacks}
-use Rattle.engine.specs.RuleUses.{AllUses}
+use Rattle.engine.specs.RuleUses.{PUses, FrameUses, QUses, ThreadUses, AllUses}
 use Rattle.engine.specs.Passing.{Looked}
 use Rattle.engine.specs.Answers.{Confirmed, lacking, whole}
-use Rattle.engine.proofs.Bridge.{Yielded, Used, used-to}
+use Rattle.engine.proofs.Bridge.{Used, upto-at, used-to, used-inl, used-inr, used-lacks, Yielded, marked-at, p-stands, q-stands}
 use Rattle.engine.proofs.BridgeRows.{step-used, step-yields, push-used, push-yields, pop-used, pop-yields}
 use Rattle.engine.proofs.BridgeCalls.{call-used, call-yields}
-use Rattle.engine.proofs.BridgeGuarantees.{env-used-P, env-used-Q, env-yields-P, env-yields-Q}
+use Rattle.engine.proofs.BridgeGuarantees.{moved-used, moved-yields}
 
 module _ {T : Table} (sound : Sound T) {n : RowCounts} {st pu po : List ℕ} (reads : Reads T n st pu po) (m : List ℕ) where
+  abbrev s : Plan
+  s = planOf T
+
   abbrev All : Uses
-  All = AllUses (planOf T) n st pu po
+  All = AllUses s n st pu po
+
+  -- ---- from uses of the rules: on the P facts, the Q facts or the Q facts of one frame, in the row of a marked fact
+
+  on-P : {t a b g l y : ℕ} → Marked T m (P t a b g l) → Used (PUses s n st pu t (a * T .L + b)) m y → Used All m y
+  on-P p = used-to (λ q x u. upto-at _ (p .fits .0) (inl (upto-at _ (digits-lt (p .fits .1) (p .fits .2)) u)))
+
+  on-Q : {t a b f g l y : ℕ} → Marked T m (Q t a b f g l) → Used (QUses s n po t (a * T .L + b)) m y → Used All m y
+  on-Q p = used-to (λ q x u. upto-at _ (p .fits .0) (inr (upto-at _ (digits-lt (p .fits .1) (p .fits .2)) u)))
+
+  on-frame : {t a b f g l y : ℕ} → Marked T m (Q t a b f g l) → Used (FrameUses s t (a * T .L + b) f) m y → Used All m y
+  on-frame p u = on-Q p (used-to (λ q x v. inl (upto-at _ (p .fits .3) v)) u)
 
   pub yields-used : (f : Fact) → Yields T (Marked T m) f → Used All m (pos T f)
-  yields-used f (step-P p r) = used-to (λ q x u. inl (inl u)) (step-used T sound (n .steps) st m (reads .steps) _ _ _ (r .row) p .0)
-  yields-used f (step-G p r) = used-to (λ q x u. inl (inl u)) (step-used T sound (n .steps) st m (reads .steps) _ _ _ (r .row) p .1)
-  yields-used f (push-Q p r) =
-      used-to (λ q x u. inl (inr (inl u))) (push-used T sound (n .pushes) pu m (reads .pushes) _ _ _ (r .row) p .0)
-  yields-used f (push-P p r) =
-      used-to (λ q x u. inl (inr (inl u))) (push-used T sound (n .pushes) pu m (reads .pushes) _ _ _ (r .row) p .1)
-  yields-used f (pop-P p r) = used-to (λ q x u. inl (inr (inr u))) (pop-used T sound (n .pops) po m (reads .pops) _ _ _ (r .row) p)
-  yields-used f (call p q) = used-to (λ q x u. inr (inl u)) (call-used T sound m _ _ _ _ _ _ _ _ p q)
-  yields-used f (env-P p e ne) = used-to (λ q x u. inr (inr (inl u))) (env-used-P T sound m _ _ _ _ e ne _ _ _ p)
-  yields-used f (env-Q p e ne) = used-to (λ q x u. inr (inr (inr u))) (env-used-Q T sound m _ _ _ _ e ne _ _ _ _ p)
+  yields-used f (step-P p r) = on-P p (used-inl (step-used T m (n .steps) st _ _ (reads .steps) _ (r .row) p .0))
+  yields-used f (step-G p r) = on-P p (used-inl (step-used T m (n .steps) st _ _ (reads .steps) _ (r .row) p .1))
+  yields-used f (push-Q p r) = on-P p (used-inr (used-inl (push-used T m (n .pushes) pu _ _ (reads .pushes) _ (r .row) p .0)))
+  yields-used f (push-P p r) = on-P p (used-inr (used-inl (push-used T m (n .pushes) pu _ _ (reads .pushes) _ (r .row) p .1)))
+  yields-used f (pop-P p r) = on-Q p (used-inr (pop-used T m (n .pops) po _ _ (reads .pops) _ (r .row) p))
+  yields-used f (call p c) = on-frame p (used-inl (call-used p c))
+  yields-used f (env-P p e ne) = on-P p (used-inr (used-inr (moved-used _ (P _ _ _) (pos-p-row T _ _ _) (p .fits .4) p e ne)))
+  yields-used f (env-Q p e ne) = on-frame p (used-inr (moved-used _ (Q _ _ _ _) (pos-q-row T _ _ _ _) (p .fits .5) p e ne))
+
+  -- ---- to uses of the rules, from marks at q and x
+
+  module _ {q x y : ℕ} (hq : Has m q) (hx : Has m x) {t : ℕ} (th : t < T .n) (a : ℕ) (ah : a < s .k) where
+    of-P : PUses s n st pu t a q x y → Yielded T m y
+    of-P (inl u) = step-yields sound ah hx t (reads .steps) u
+    of-P (inr (inl u)) = push-yields sound ah hx t (reads .pushes) u
+    of-P (inr (inr u)) =
+        moved-yields sound _ (P t (a / T .L) (a % T .L)) (λ g l. p-stands sound th ah) (λ e g g′ l. env-P) u hq hx
+
+    of-frame : (f : ℕ) → f < T .F → FrameUses s t a f q x y → Yielded T m y
+    of-frame f fh (inl u) = call-yields sound th ah fh u hq hx
+    of-frame f fh (inr u) =
+        moved-yields sound _ (Q t (a / T .L) (a % T .L) f) (λ g l. q-stands sound th ah fh) (λ e g g′ l. env-Q) u hq hx
+
+    of-Q : QUses s n po t a q x y → Yielded T m y
+    of-Q (inl u) = of-frame (u .k) (u .lt) (u .given)
+    of-Q (inr u) = pop-yields sound ah hx t (reads .pops) u
 
   pub used-yields : (q x y : ℕ) → All q x y → Has m q → Has m x → Yielded T m y
-  used-yields q x y (inl (inl u)) hq hx = step-yields T sound (n .steps) st m (reads .steps) q x y u hx
-  used-yields q x y (inl (inr (inl u))) hq hx = push-yields T sound (n .pushes) pu m (reads .pushes) q x y u hx
-  used-yields q x y (inl (inr (inr u))) hq hx = pop-yields T sound (n .pops) po m (reads .pops) q x y u hx
-  used-yields q x y (inr (inl u)) hq hx = call-yields T sound m q x y u hq hx
-  used-yields q x y (inr (inr (inl u))) hq hx = env-yields-P T sound m q x y u hq hx
-  used-yields q x y (inr (inr (inr u))) hq hx = env-yields-Q T sound m q x y u hq hx
+  used-yields q x y u hq hx = go (u .given)
+    where
+      go : ThreadUses s n st pu po (u .k) q x y → Yielded T m y
+      go (inl v) = of-P hq hx (u .lt) (v .k) (v .lt) (v .given)
+      go (inr v) = of-Q hq hx (u .lt) (v .k) (v .lt) (v .given)
 
   -- what lacks at positions is what is missing by the rules
   pub lacks-yields : {y : ℕ} → Lacks All m y → Yielded T m y
@@ -68,15 +100,7 @@ module _ {T : Table} (sound : Sound T) {n : RowCounts} {st pu po : List ℕ} (re
   missing-lacks : (y : ℕ) → Missing T (Marked T m) y → Lacks All m y
   missing-lacks y s =
       let at = factAt-stands sound y (s .below) in
-      let u = yields-used (factAt T y) (s .yields) in
-      record {
-        q = u .q;
-        x = u .x;
-        given = subst (All (u .q) (u .x)) (at .here) (u .given);
-        has-q = u .has-q;
-        has-x = u .has-x;
-        not = λ h. s .not (has-marked (factAt T y) (at .fits) (at .here) h);
-      }
+      subst (Lacks All m) (at .here) (used-lacks (yields-used _ (s .yields)) (λ h. s .not (marked-at at (at .here) h)))
 
   -- a pass that looks finds the smallest missing position
   pub looked-confirmed : {b r : Pass} → b .best ≡ W T → 0 < b .left → Looked All b r m → Confirmed T m (r .best)

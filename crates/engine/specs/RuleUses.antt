@@ -1,37 +1,39 @@
--- The uses of each rule at positions (01, "The rules"), by a table's plan s. With k pairs, a rule for one row is a line of k uses, one for
--- each pair from which facts lead to the row's place.
+-- The uses of each rule at positions (01, "The rules"), by a table's plan s. Facts stand in rows: the P facts of a thread t from a pair a, and
+-- the Q facts of t from a with a frame, each row with a place for every pair where a fact may end. So uses are told row by row.
 use mathlib.Core.Path.{_≡_}
 use mathlib.Core.List.{List}
 use Prim.Native.Nat.{ℕ, _+_, _*_, _/_, _%_}
 use Rattle.store.specs.declared.plan.Plan.{Plan}
 use Rattle.store.specs.declared.rows.Row.{Row}
 use Rattle.store.specs.declared.rows.RowCounts.{RowCounts}
-use Rattle.store.specs.Plans.{pair, pAt, qAt, gAt}
+use Rattle.store.specs.Plans.{pair, pFrom, qFrom, gAt}
 use Rattle.store.specs.Reading.{rowOf}
 use Rattle.engine.specs.declared.row_rules.Kind.{Kind}
 use Rattle.engine.specs.declared.row_rules.Kind.the-variants.{Step, Push, Pop}
-use Rattle.engine.specs.declared.guarantees.Relation.{Relation}
-use Rattle.engine.specs.declared.guarantees.Relation.the-variants.{P, Q}
 use Rattle.engine.specs.Given.{RowIn}
-use Rattle.engine.specs.Uses.{Uses, Either, Upto, With, Under, Line, Block}
+use Rattle.engine.specs.Uses.{Uses, Single, Either, Upto, With, Under, Line}
 
--- ---- rules 4, 5 and 7: the rules with a row
+-- ---- rules 4, 5 and 7: the rules with a row, on the facts of t from pair a
 
--- rule 4: from each P fact that ends at the row's place, a P fact and a G fact
-abbrev pub StepUse : Plan → Row → Uses
-StepUse s r =
-    Either (Upto (Line (pAt s (r .t) (pair s (r .g) (r .l))) (s .k) (pAt s (r .t) (pair s (r .u) (r .v))) (s .k)) (s .k))
-    (Upto (Line (pAt s (r .t) (pair s (r .g) (r .l))) (s .k) (gAt s (r .t) (r .g) (r .u)) 0) (s .k))
+-- where the P fact to the place of a row stands
+abbrev pub placeOf : Plan → ℕ → ℕ → Row → ℕ
+placeOf s t a r = pFrom s t a + pair s (r .g) (r .l)
 
--- rule 5: from each P fact that ends at the row's place, a Q fact and the P fact of the callee's start
-abbrev pub PushUse : Plan → Row → Uses
-PushUse s r =
-    Either (Upto (Line (pAt s (r .t) (pair s (r .g) (r .l))) (s .k) (qAt s (r .t) (r .v) (pair s (r .g) (r .u))) (s .f * s .k)) (s .k))
-    (Upto (Line (pAt s (r .t) (pair s (r .g) (r .l))) (s .k) (pAt s (r .t) (pair s (r .g) (r .u)) + pair s (r .g) (r .u) * s .k) 0) (s .k))
+-- rule 4: the P fact that ends at the row's place gives a P fact and a G fact
+abbrev pub StepUse : Plan → ℕ → ℕ → Row → Uses
+StepUse s t a r =
+    Either (Single (placeOf s t a r) (pFrom s t a + pair s (r .u) (r .v)))
+    (Single (placeOf s t a r) (gAt s t (r .g) (r .u)))
 
--- rule 7: from each Q fact with the row's frame that ends at its place, a P fact
-abbrev pub PopUse : Plan → Row → Uses
-PopUse s r = Upto (Line (qAt s (r .t) (r .u) (pair s (r .g) (r .l))) (s .f * s .k) (pAt s (r .t) (pair s (r .g) (r .v))) (s .k)) (s .k)
+-- rule 5: it gives a Q fact, and the P fact of the callee's start
+abbrev pub PushUse : Plan → ℕ → ℕ → Row → Uses
+PushUse s t a r =
+    Either (Single (placeOf s t a r) (qFrom s t a + r .v * s .k + pair s (r .g) (r .u)))
+    (Single (placeOf s t a r) (pFrom s t (pair s (r .g) (r .u)) + pair s (r .g) (r .u)))
+
+-- rule 7: the Q fact with the row's frame that ends at its place gives a P fact
+abbrev pub PopUse : Plan → ℕ → ℕ → Row → Uses
+PopUse s t a r = Single (qFrom s t a + r .u * s .k + pair s (r .g) (r .l)) (pFrom s t a + pair s (r .g) (r .v))
 
 -- the bounds of a row's last two numbers, by its kind
 abbrev pub uMost : Kind → Plan → ℕ
@@ -47,51 +49,51 @@ vMost Pop s = s .l
 abbrev pub KindIn : Kind → Plan → Row → Type 0
 KindIn kind s r = RowIn s (uMost kind s) (vMost kind s) r
 
-abbrev pub RowUse : Kind → Plan → Row → Uses
-RowUse Step s r = StepUse s r
-RowUse Push s r = PushUse s r
-RowUse Pop s r = PopUse s r
+abbrev pub KindUse : Kind → Plan → ℕ → ℕ → Row → Uses
+KindUse Step s t a r = StepUse s t a r
+KindUse Push s t a r = PushUse s t a r
+KindUse Pop s t a r = PopUse s t a r
+
+-- a row of t
+abbrev pub RowUse : Kind → Plan → ℕ → ℕ → Row → Uses
+RowUse kind s t a r = Under (r .t ≡ t) (KindUse kind s t a r)
 
 -- those of the first n rows
-abbrev pub RowUses : Kind → Plan → List ℕ → ℕ → Uses
-RowUses kind s rows n = Upto (λ i. RowUse kind s (rowOf rows i)) n
+abbrev pub RowUses : Kind → Plan → ℕ → ℕ → List ℕ → ℕ → Uses
+RowUses kind s t a rows n = Upto (λ i. RowUse kind s t a (rowOf rows i)) n
 
 -- ---- rule 6
 
--- how many Q facts there are
-abbrev pub qCount : Plan → ℕ
-qCount s = s .n * s .k * s .f * s .k
+-- the Q fact to pair b in the row of Q facts from y on, with the P facts from b
+abbrev pub CallUse : Plan → ℕ → ℕ → ℕ → Uses
+CallUse s t y b = With (y + b) (Upto (Line (pFrom s t b) y) (s .k))
 
--- the Q fact i, with the P facts from where it ends: its row of Q facts is i / k, and it ends at the pair i % k
-abbrev pub CallUse : Plan → ℕ → Uses
-CallUse s i = With (s .q + i) (Upto (Line (pAt s (i / s .k / s .f / s .k) 0 + i % s .k * s .k) 1 (s .q + i / s .k * s .k) 1) (s .k))
+-- ---- rules 2 and 3
 
--- ---- rules 2 and 3: rule 2 for the relation P, rule 3 for Q
-
--- where the facts of t begin in a relation, and how many rows of k facts they are
-abbrev pub firstAt : Relation → Plan → ℕ → ℕ
-firstAt P s t = s .p + t * s .k * s .k
-firstAt Q s t = s .q + t * s .k * s .f * s .k
-
-abbrev pub rowsIn : Relation → Plan → ℕ
-rowsIn P s = s .k
-rowsIn Q s = s .k * s .f
-
--- a guarantee of e, and the facts of t other than e: in each row, those that end from pair a on give those from pair b on
-abbrev pub MovedUse : Relation → Plan → ℕ → ℕ → ℕ → ℕ → Uses
-MovedUse rel s e a b t = Under (t ≡ e → ⊥) (Upto (Block (firstAt rel s t + a) (firstAt rel s t + b) (s .k) (s .l)) (rowsIn rel s))
-
--- the G fact i, of thread i / g / g from i / g % g to i % g
-abbrev pub GuaranteeUse : Relation → Plan → ℕ → Uses
-GuaranteeUse rel s i = With i (Upto (MovedUse rel s (i / s .g / s .g) (i / s .g % s .g * s .l) (i % s .g * s .l)) (s .n))
+-- the G fact i, of thread i / g / g from i / g % g to i % g, and the row of facts of t from x on, if the guarantee is another thread's
+abbrev pub MovedUse : Plan → ℕ → ℕ → ℕ → Uses
+MovedUse s t x i =
+    With i (Under (i / s .g / s .g ≡ t → ⊥) (Upto (Line (x + i / s .g % s .g * s .l) (x + i % s .g * s .l)) (s .l)))
 
 -- ---- every use of rules 2 to 7
 
-abbrev pub AllRowUses : Plan → RowCounts → List ℕ → List ℕ → List ℕ → Uses
-AllRowUses s n steps pushes pops =
-    Either (RowUses Step s steps (n .steps)) (Either (RowUses Push s pushes (n .pushes)) (RowUses Pop s pops (n .pops)))
+-- on the P facts of t from pair a
+abbrev pub PUses : Plan → RowCounts → List ℕ → List ℕ → ℕ → ℕ → Uses
+PUses s n steps pushes t a =
+    Either (RowUses Step s t a steps (n .steps))
+    (Either (RowUses Push s t a pushes (n .pushes)) (Upto (MovedUse s t (pFrom s t a)) (s .p)))
+
+-- on the Q facts of t from pair a with frame f, but for rule 7
+abbrev pub FrameUses : Plan → ℕ → ℕ → ℕ → Uses
+FrameUses s t a f = Either (Upto (CallUse s t (qFrom s t a + f * s .k)) (s .k)) (Upto (MovedUse s t (qFrom s t a + f * s .k)) (s .p))
+
+-- on the Q facts of t from pair a
+abbrev pub QUses : Plan → RowCounts → List ℕ → ℕ → ℕ → Uses
+QUses s n pops t a = Either (Upto (FrameUses s t a) (s .f)) (RowUses Pop s t a pops (n .pops))
+
+-- on the facts of t
+abbrev pub ThreadUses : Plan → RowCounts → List ℕ → List ℕ → List ℕ → ℕ → Uses
+ThreadUses s n steps pushes pops t = Either (Upto (PUses s n steps pushes t) (s .k)) (Upto (QUses s n pops t) (s .k))
 
 abbrev pub AllUses : Plan → RowCounts → List ℕ → List ℕ → List ℕ → Uses
-AllUses s n steps pushes pops =
-    Either (AllRowUses s n steps pushes pops)
-    (Either (Upto (CallUse s) (qCount s)) (Either (Upto (GuaranteeUse P s) (s .p)) (Upto (GuaranteeUse Q s) (s .p))))
+AllUses s n steps pushes pops = Upto (ThreadUses s n steps pushes pops) (s .n)

@@ -2,7 +2,7 @@
 use mathlib.Core.Path.{_≡_}
 use mathlib.Core.Logic.{_⊎_}
 use mathlib.Core.List.{List}
-use Prim.Native.Nat.{ℕ, _+_, _*_, _<_}
+use Prim.Native.Nat.{ℕ, _+_, _<_}
 use Rattle.store.specs.Marking.{Has}
 
 -- a set of uses
@@ -30,13 +30,9 @@ pub record Upto (A : ℕ → ℕ → ℕ → ℕ → Type 0) (n q x y : ℕ) : T
   pub lt : k < n
   pub given : A k q x y
 
--- use j of a line: x + j * dx gives y + j * dy
-abbrev pub Line : ℕ → ℕ → ℕ → ℕ → ℕ → Uses
-Line x dx y dy j = Single (x + j * dx) (y + j * dy)
-
--- line i of a block, of n uses: they follow one another
-abbrev pub Block : ℕ → ℕ → ℕ → ℕ → ℕ → Uses
-Block x y d n i = Upto (Line (x + i * d) 1 (y + i * d) 1) n
+-- use j of a line: x + j gives y + j
+abbrev pub Line : ℕ → ℕ → ℕ → Uses
+Line x y j = Single (x + j) (y + j)
 
 -- a use gives y from marks, and there is no mark at y
 pub record Lacks (U : ℕ → ℕ → ℕ → Type 0) (m : List ℕ) (y : ℕ) : Type 0 where

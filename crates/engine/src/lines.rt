@@ -1,9 +1,10 @@
-// Uses of rules at positions: the mark at x gives the mark at y. One function puts marks; lines and blocks of uses call it.
-ghost use Prim.Native.Nat.{ℕ, _+_, _*_, _<_};
+// Uses of rules at positions: the mark at x gives the mark at y. One function puts marks; lines of uses call it.
+ghost use Prim.Native.Nat.{_+_, _<_, _≤_};
 ghost use Rattle.store.specs.Marking.{room};
-ghost use Rattle.engine.specs.Uses.{Single, Upto, Line, Block};
+ghost use Rattle.engine.specs.Uses.{Single, Upto, Line};
 ghost use Rattle.engine.specs.Passing.{Swept};
 use store::marks::has;
+use store::marks::lacks;
 use store::marks::put_mark;
 
 // What a pass carries. A pass that looks: the smallest position found lacking. A pass that puts: how many marks may still be put until there
@@ -14,7 +15,7 @@ pub struct Pass {
 }
 
 // One use.
-fn one(mem: &mut [u8], put: bool, pass: Pass, x: usize, y: usize) -> Pass
+pub fn one(mem: &mut [u8], put: bool, pass: Pass, x: usize, y: usize) -> Pass
     requires { ⌜ (x < room (now mem)) × (y < room (now mem)) ⌝ }
     ensures { λ r. ⌜ Swept (Single x y) put pass r (now (mem .entry)) (now (mem .exit)) ⌝ }
 {
@@ -46,51 +47,19 @@ fn one(mem: &mut [u8], put: bool, pass: Pass, x: usize, y: usize) -> Pass
     pass
 }
 
-// A line of n uses: x + j * dx gives y + j * dy.
-pub fn line(
-    mem: &mut [u8],
-    put: bool,
-    pass: Pass,
-    x: usize,
-    dx: usize,
-    y: usize,
-    dy: usize,
-    n: usize,
-) -> Pass
-    requires { ⌜ ((j : ℕ) → j < n → (x + j * dx < room (now mem)) × (y + j * dy < room (now mem))) ⌝ }
-    ensures { λ r. ⌜ Swept (Upto (Line x dx y dy) n) put pass r (now (mem .entry)) (now (mem .exit)) ⌝ }
+// A line of n uses: x + j gives y + j. Most lines lack nothing, and this is seen at once.
+pub fn line(mem: &mut [u8], put: bool, pass: Pass, x: usize, y: usize, n: usize) -> Pass
+    requires { ⌜ (x + n ≤ room (now mem)) × (y + n ≤ room (now mem)) ⌝ }
+    ensures { λ r. ⌜ Swept (Upto (Line x y) n) put pass r (now (mem .entry)) (now (mem .exit)) ⌝ }
 {
-    if pass.left == 0 {
+    if !lacks(mem, x, y, n) {
         return pass;
     }
     let mut sofar = pass;
     let mut j: usize = 0;
     while j < n {
-        sofar = one(mem, put, sofar, x + j * dx, y + j * dy);
+        sofar = one(mem, put, sofar, x + j, y + j);
         j += 1;
-    }
-    sofar
-}
-
-// A block of lines of n uses, d apart.
-pub fn block(
-    mem: &mut [u8],
-    put: bool,
-    pass: Pass,
-    x: usize,
-    y: usize,
-    d: usize,
-    lines: usize,
-    n: usize,
-) -> Pass
-    requires { ⌜ (0 < n) × ((i j : ℕ) → i < lines → j < n → (x + i * d + j * 1 < room (now mem)) × (y + i * d + j * 1 < room (now mem))) ⌝ }
-    ensures { λ r. ⌜ Swept (Upto (Block x y d n) lines) put pass r (now (mem .entry)) (now (mem .exit)) ⌝ }
-{
-    let mut sofar = pass;
-    let mut i: usize = 0;
-    while i < lines {
-        sofar = line(mem, put, sofar, x + i * d, 1, y + i * d, 1, n);
-        i += 1;
     }
     sofar
 }

@@ -7,7 +7,7 @@ use native.Mathlib.Nat.{mul-le-mul, mod-lt, mul-le-mul-right, div-lt-iff-lt-mul}
 use native.Mathlib.Omega.{arith}
 use lib.Arith.{digits-lt}
 use Rattle.store.specs.declared.plan.Plan.{Plan}
-use Rattle.store.specs.Plans.{Planned, pair, pAt, qAt, gAt}
+use Rattle.store.specs.Plans.{Planned, pair, pAt, pFrom, qFrom, gAt}
 
 -- a product above something has no factor 0
 pub right-pos : (m c : ℕ) {q : ℕ} → q < m * c → 0 < c
@@ -21,8 +21,23 @@ module _ {s : Plan} (h : Planned s) where
   pub p-line : {t c j : ℕ} → t < s .n → c < s .k → j < s .k → pAt s t c + j * s .k < s .q
   p-line a b c = omega (arith, digits-lt (digits-lt a c) b, h .q)
 
-  pub q-line : {t f c j : ℕ} → t < s .n → f < s .f → c < s .k → j < s .k → qAt s t f c + j * (s .f * s .k) < s .w
-  q-line a b c d = omega (arith, digits-lt (digits-lt (digits-lt a d) b) c, h .w)
+  -- a row of P facts
+  pub p-row : {t a : ℕ} → t < s .n → a < s .k → pFrom s t a + s .k ≤ s .q
+  p-row {t} {a} x y = omega (arith, mul-le-mul-right (s .k) (digits-lt x y), h .q)
+
+  -- the rows of Q facts from a pair, and one of them
+  pub q-rows : {t a : ℕ} → t < s .n → a < s .k → qFrom s t a + s .f * s .k ≤ s .w
+  q-rows {t} {a} x y = omega (arith, mul-le-mul-right (s .f * s .k) (digits-lt x y), h .w)
+
+  pub q-row : {f : ℕ} → f < s .f → f * s .k + s .k ≤ s .f * s .k
+  q-row {f} x = omega (arith, mul-le-mul-right (s .k) x)
+
+  -- a fact in its row
+  pub p-lt : {t a c : ℕ} → t < s .n → a < s .k → c < s .k → pFrom s t a + c < s .w
+  p-lt x y z = omega (arith, p-row x y, h .w)
+
+  pub q-lt : {t a f c : ℕ} → t < s .n → a < s .k → f < s .f → c < s .k → qFrom s t a + f * s .k + c < s .w
+  q-lt x y z u = omega (arith, q-rows x y, q-row z)
 
   pub g-lt : {t g g′ : ℕ} → t < s .n → g < s .g → g′ < s .g → gAt s t g g′ < s .p
   g-lt a b c = omega (arith, digits-lt (digits-lt a b) c, h .p)
@@ -39,11 +54,16 @@ module _ {s : Plan} (h : Planned s) where
       let b = mul-le-mul {n₁ = t} {n₂ = 4} {m₂ = 256} (omega (arith, h .n-max)) (h .k-max) in
       (b, mul-le-mul {n₁ = t * s .k} {n₂ = 1024} {m₂ = 256} b (h .k-max))
 
-  pub q-small : {t f : ℕ} → t < s .n → f < s .f → (t * s .k ≤ 1024) × (t * s .k * s .f ≤ 8192) × ((t * s .k * s .f + f) * s .k ≤ 2099200)
-  q-small {t} {f} a b =
-      let d = mul-le-mul {n₁ = t * s .k} {n₂ = 1024} {m₂ = 8} (p-small a .0) (h .f-max) in
-      let e : t * s .k * s .f + f ≤ 8200 = omega (arith, h .f-max) in
-      (p-small a .0, d, mul-le-mul {n₁ = t * s .k * s .f + f} {n₂ = 8200} {m₂ = 256} e (h .k-max))
+  pub row-small : {t a : ℕ} → t < s .n → a < s .k → (t * s .k ≤ 1024) × ((t * s .k + a) * s .k ≤ 327680) × (s .f * s .k ≤ 2048)
+      × ((t * s .k + a) * (s .f * s .k) ≤ 2621440)
+  row-small {t} {a} x y =
+      let b : t * s .k + a ≤ 1280 = omega (arith, p-small x, h .k-max) in
+      let fk = mul-le-mul {n₂ = 8} {m₂ = 256} (h .f-max) (h .k-max) in (
+        p-small x .0,
+        mul-le-mul {n₁ = t * s .k + a} {n₂ = 1280} {m₂ = 256} b (h .k-max),
+        fk,
+        mul-le-mul {n₁ = t * s .k + a} {n₂ = 1280} {m₂ = 2048} b fk,
+      )
 
   pub g-small : {t g : ℕ} → t < s .n → g < s .g → (t * s .g ≤ 64) × ((t * s .g + g) * s .g ≤ 1280)
   g-small {t} {g} a b =
@@ -51,25 +71,8 @@ module _ {s : Plan} (h : Planned s) where
       let e : t * s .g + g ≤ 80 = omega (arith, h .g-max) in
       (d, mul-le-mul {n₁ = t * s .g + g} {n₂ = 80} {m₂ = 16} e (h .g-max))
 
-  pub fk-small : s .f * s .k ≤ 2048
-  fk-small = mul-le-mul {n₂ = 8} {m₂ = 256} (h .f-max) (h .k-max)
-
   pub ck-small : {c : ℕ} → c < s .k → c * s .k ≤ 65536
   ck-small {c} a = mul-le-mul {n₁ = c} {n₂ = 256} {m₂ = 256} (omega (arith, h .k-max)) (h .k-max)
-
-  pub rows-small : {t : ℕ} → t < s .n → (t * s .k ≤ 1024) × (t * s .k * s .k ≤ 262144) × (t * s .k * s .f ≤ 8192) × (t * s .k * s .f * s .k ≤ 2097152)
-  rows-small {t} a =
-      let b = p-small a in
-      let d = mul-le-mul {n₁ = t * s .k} {n₂ = 1024} {m₂ = 8} (b .0) (h .f-max) in
-      (b .0, b .1, d, mul-le-mul {n₁ = t * s .k * s .f} {n₂ = 8192} {m₂ = 256} d (h .k-max))
-
-  pub p-block : {t i j : ℕ} (a : ℕ) → t < s .n → a + s .l ≤ s .k → i < s .k → j < s .l
-      → s .p + t * s .k * s .k + a + i * s .k + j * 1 < s .q
-  p-block {j} a x y z u = let v : a + j < s .k = omega arith in omega (arith, digits-lt (digits-lt x z) v, h .q)
-
-  pub q-block : {t i j : ℕ} (a : ℕ) → t < s .n → a + s .l ≤ s .k → i < s .k * s .f → j < s .l
-      → s .q + t * s .k * s .f * s .k + a + i * s .k + j * 1 < s .w
-  q-block {j} a x y z u = let v : a + j < s .k = omega arith in omega (arith, digits-lt (digits-lt x z) v, h .w)
 
   -- the pairs of one shared store
   pub cut : (m : ℕ) → m < s .g → m * s .l + s .l ≤ s .k

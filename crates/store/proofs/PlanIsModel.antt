@@ -10,7 +10,7 @@ use Rattle.model.specs.Rules.{G, P, Q}
 use Rattle.model.specs.Positions.{baseP, baseQ, pos}
 use Rattle.files.proofs.RoomLaws.{W-max}
 use Rattle.store.specs.declared.plan.Plan.{Plan}
-use Rattle.store.specs.Plans.{Planned, pAt, qAt, gAt, planOf}
+use Rattle.store.specs.Plans.{Planned, pAt, pFrom, qFrom, gAt, planOf}
 use Rattle.store.proofs.Places.{small}
 
 module _ (T : Table) where
@@ -32,20 +32,29 @@ module _ (T : Table) where
   unfolding pos baseP
   pos-p t a k g l = omega arith
 
-  pub pos-q : (t a k f g l : ℕ) → pos T (Q t a k f g l) ≡ qAt s t f (g * T .L + l) + (a * T .L + k) * (T .F * K)
+  -- a fact stands in its row
+  pub pos-p-row : (t a k g l : ℕ) → pos T (P t a k g l) ≡ pFrom s t (a * T .L + k) + (g * T .L + l)
+  unfolding pos baseP
+  pos-p-row t a k g l = omega arith
+
+  pub pos-q-row : (t a k f g l : ℕ) → pos T (Q t a k f g l) ≡ qFrom s t (a * T .L + k) + f * K + (g * T .L + l)
   unfolding pos baseQ
-  pos-q t a k f g l = omega arith
+  pos-q-row t a k f g l = omega arith
 
   -- a number j is the pair of its two digits
   pub pair-digits : (j : ℕ) → j / T .L * T .L + j % T .L ≡ j
   pair-digits j = div-add-mod' j (T .L)
 
   -- the facts from pair j
-  pub pos-p-from : (t j g l : ℕ) → pos T (P t (j / T .L) (j % T .L) g l) ≡ pAt s t (g * T .L + l) + j * K
-  pos-p-from t j g l = pos-p t _ _ g l ∙ ap (λ z. pAt s t (g * T .L + l) + z * K) (pair-digits j)
+  pub pos-p-from : (t j g l : ℕ) → pos T (P t (j / T .L) (j % T .L) g l) ≡ pFrom s t j + (g * T .L + l)
+  pos-p-from t j g l = pos-p-row t _ _ g l ∙ ap (λ z. pFrom s t z + (g * T .L + l)) (pair-digits j)
 
-  pub pos-q-from : (t j f g l : ℕ) → pos T (Q t (j / T .L) (j % T .L) f g l) ≡ qAt s t f (g * T .L + l) + j * (T .F * K)
-  pos-q-from t j f g l = pos-q t _ _ f g l ∙ ap (λ z. qAt s t f (g * T .L + l) + z * (T .F * K)) (pair-digits j)
+  -- and by the pair where they end
+  pub pos-p-to : (t j g l : ℕ) → pos T (P t (j / T .L) (j % T .L) g l) ≡ pAt s t (g * T .L + l) + j * K
+  pos-p-to t j g l = pos-p t _ _ g l ∙ ap (λ z. pAt s t (g * T .L + l) + z * K) (pair-digits j)
+
+  pub pos-q-from : (t j f g l : ℕ) → pos T (Q t (j / T .L) (j % T .L) f g l) ≡ qFrom s t j + f * K + (g * T .L + l)
+  pos-q-from t j f g l = pos-q-row t _ _ f g l ∙ ap (λ z. qFrom s t z + f * K + (g * T .L + l)) (pair-digits j)
 
   module _ (sound : Sound T) where
     -- a number below K is a pair

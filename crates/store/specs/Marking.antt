@@ -2,7 +2,7 @@
 use mathlib.Core.Path.{_≡_}
 use mathlib.Core.Bool.{Bool, true, false}
 use mathlib.Core.List.{List}
-use Prim.Native.Nat.{ℕ, _<_}
+use Prim.Native.Nat.{ℕ, _+_, _<_}
 use lib.ListN.{set, length}
 use Rattle.model.specs.Memory.{mark}
 
@@ -13,6 +13,20 @@ room m = length m
 -- there is a mark at p
 unfoldable pub Has : List ℕ → ℕ → Type 0
 Has m p = mark m p ≡ 1
+
+-- one of the numbers below n is in A
+pub record Among (A : ℕ → Type 0) (n : ℕ) : Type 0 where
+  pub j : ℕ
+  pub lt : j < n
+  pub here : A j
+
+-- there is a mark among the n places from x on
+abbrev pub SomeIn : List ℕ → ℕ → ℕ → Type 0
+SomeIn m x n = Among (λ j. Has m (x + j)) n
+
+-- one of the n places from x on has a mark where its partner, of the n from y on, has none
+abbrev pub LacksIn : List ℕ → ℕ → ℕ → ℕ → Type 0
+LacksIn m x y n = Among (λ j. Has m (x + j) × ¬ Has m (y + j)) n
 
 -- the memory with a mark put at p
 unfoldable pub marked : List ℕ → ℕ → List ℕ

@@ -28,9 +28,13 @@ pair s g l = g * s .l + l
 abbrev pub pAt : Plan → ℕ → ℕ → ℕ
 pAt s t c = s .p + t * s .k * s .k + c
 
--- Q fact of t with frame f from pair 0 to pair c; the one from pair a stands a * (f * k) further, f the number of frames
-abbrev pub qAt : Plan → ℕ → ℕ → ℕ → ℕ
-qAt s t f c = s .q + (t * s .k * s .f + f) * s .k + c
+-- the row of P facts of t from pair a; the one to pair c stands c further
+abbrev pub pFrom : Plan → ℕ → ℕ → ℕ
+pFrom s t a = s .p + (t * s .k + a) * s .k
+
+-- the rows of Q facts of t from pair a, one for each frame; the fact with frame f to pair c stands f * k + c further
+abbrev pub qFrom : Plan → ℕ → ℕ → ℕ
+qFrom s t a = s .q + (t * s .k + a) * (s .f * s .k)
 
 -- G fact of t from g to g′
 abbrev pub gAt : Plan → ℕ → ℕ → ℕ → ℕ

@@ -1,7 +1,7 @@
 // The store: the only place that knows how a fact stands in memory. One byte a fact, 1 if it is marked.
 ghost use mathlib.Core.Path.{_≡_};
-ghost use Prim.Native.Nat.{_<_};
-ghost use Rattle.store.specs.Marking.{room, Has, marked, Clear, Is};
+ghost use Prim.Native.Nat.{_+_, _<_, _≤_};
+ghost use Rattle.store.specs.Marking.{room, Has, SomeIn, LacksIn, marked, Clear, Is};
 
 // Whether there is a mark at p.
 pub fn has(mem: &[u8], p: usize) -> bool
@@ -9,6 +9,37 @@ pub fn has(mem: &[u8], p: usize) -> bool
     ensures { λ r. ⌜ Is (Has (now (mem .entry)) p) r ⌝ }
 {
     mem[p] == 1
+}
+
+// Whether there is a mark among the n places from x on. It has no branch, so that many places are looked at together.
+pub fn some(mem: &[u8], x: usize, n: usize) -> bool
+    requires { ⌜ x + n ≤ room (now mem) ⌝ }
+    ensures { λ r. ⌜ Is (SomeIn (now (mem .entry)) x n) r ⌝ }
+{
+    let mut found: u8 = 0;
+    let mut j: usize = 0;
+    while j < n {
+        let here = mem[x + j] == 1;
+        found = found | here as u8;
+        j += 1;
+    }
+    found != 0
+}
+
+// Whether one of the n places from x on has a mark where its partner, of the n from y on, has none. It has no branch, as above.
+pub fn lacks(mem: &[u8], x: usize, y: usize, n: usize) -> bool
+    requires { ⌜ (x + n ≤ room (now mem)) × (y + n ≤ room (now mem)) ⌝ }
+    ensures { λ r. ⌜ Is (LacksIn (now (mem .entry)) x y n) r ⌝ }
+{
+    let mut found: u8 = 0;
+    let mut j: usize = 0;
+    while j < n {
+        let here = mem[x + j] == 1;
+        let there = mem[y + j] != 1;
+        found = found | (here as u8 & there as u8);
+        j += 1;
+    }
+    found != 0
 }
 
 // Puts a mark at p.

@@ -1,7 +1,7 @@
 // The plan of a table: its sizes, worked out once, and the only code that computes positions.
 ghost use mathlib.Core.Path.{_≡_};
-ghost use Prim.Native.Nat.{_<_, _≤_};
-ghost use Rattle.store.specs.Plans.{Planned, pair, pAt, qAt, gAt, sized};
+ghost use Prim.Native.Nat.{_+_, _*_, _<_, _≤_};
+ghost use Rattle.store.specs.Plans.{Planned, pair, pAt, pFrom, qFrom, gAt, sized};
 use files::columns::Sizes;
 
 // n threads, g shared stores, l local stores, f frames; k pairs of a shared and a local store; p and q, where the P and the Q facts begin;
@@ -67,12 +67,36 @@ pub fn p_at(s: Plan, t: usize, c: usize) -> usize
     s.p + t * s.k * s.k + c
 }
 
-// Where the Q facts of t with frame f that end at pair c begin; the one from pair a stands a * (f * k) further, f the number of frames.
-pub fn q_at(s: Plan, t: usize, f: usize, c: usize) -> usize
-    requires { ⌜ Planned s × (t < s .n) × (f < s .f) × (c < s .k) ⌝ }
-    ensures { λ r. ⌜ r ≡ qAt s t f c ⌝ }
+// Where the row of P facts of t from pair a begins; the one to pair c stands c further.
+pub fn p_from(s: Plan, t: usize, a: usize) -> usize
+    requires { ⌜ Planned s × (t < s .n) × (a < s .k) ⌝ }
+    ensures { λ r. ⌜ r ≡ pFrom s t a ⌝ }
 {
-    s.q + (t * s.k * s.f + f) * s.k + c
+    s.p + (t * s.k + a) * s.k
+}
+
+// Where the rows of Q facts of t from pair a begin, one for each frame; the fact with frame f to pair c stands f * k + c further.
+pub fn q_from(s: Plan, t: usize, a: usize) -> usize
+    requires { ⌜ Planned s × (t < s .n) × (a < s .k) ⌝ }
+    ensures { λ r. ⌜ r ≡ qFrom s t a ⌝ }
+{
+    s.q + (t * s.k + a) * (s.f * s.k)
+}
+
+// Where the P fact of t from pair a to pair c stands.
+pub fn p_fact(s: Plan, t: usize, a: usize, c: usize) -> usize
+    requires { ⌜ Planned s × (t < s .n) × (a < s .k) × (c < s .k) ⌝ }
+    ensures { λ r. ⌜ (r ≡ pFrom s t a + c) × (r < s .w) ⌝ }
+{
+    p_from(s, t, a) + c
+}
+
+// Where the Q fact of t from pair a with frame f to pair c stands.
+pub fn q_fact(s: Plan, t: usize, a: usize, f: usize, c: usize) -> usize
+    requires { ⌜ Planned s × (t < s .n) × (a < s .k) × (f < s .f) × (c < s .k) ⌝ }
+    ensures { λ r. ⌜ (r ≡ qFrom s t a + f * s .k + c) × (r < s .w) ⌝ }
+{
+    q_from(s, t, a) + f * s.k + c
 }
 
 // Where the G fact of t from g to g2 stands.

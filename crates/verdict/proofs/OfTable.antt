@@ -16,7 +16,7 @@ use Rattle.model.specs.Memory.{Marked}
 use Rattle.store.specs.declared.plan.Plan.{Plan}
 use Rattle.store.specs.Plans.{planOf}
 use Rattle.store.proofs.MarkLaws.{marked-has, has-marked}
-use Rattle.store.proofs.PlanIsModel.{pos-p, pos-p-from, pair-fits}
+use Rattle.store.proofs.PlanIsModel.{pos-p, pos-p-to, pair-fits}
 use Rattle.verdict.specs.Judged.{rowCell, ErrorsOf}
 use Rattle.verdict.specs.Search.{Reached}
 use Rattle.verdict.proofs.Lists.{some-lt, some-getD, getD-some}
@@ -31,7 +31,7 @@ module _ (T : Table) {m : List ℕ} {g t l : ℕ} where
       record {
         g₁ = r .j / T .L;
         l₁ = r .j % T .L;
-        fact = has-marked (P t _ _ g l) (tl, al, kl, gl, r .l-lt) (pos-p-from T t (r .j) g l) (r .has);
+        fact = has-marked (P t _ _ g l) (tl, al, kl, gl, r .l-lt) (pos-p-to T t (r .j) g l) (r .has);
       }
 
   reaches-reached : Reaches (Marked T m) t g l → Reached (planOf T) m g t l

@@ -1,76 +1,85 @@
--- The pass over the other threads, under the G fact's own mark. The digits of i are its thread and its two shared stores.
+-- With the G fact's mark, and if it is another thread's, a line of uses from the facts that end at its first shared store.
 -- Assumes nothing.
-use Prim.Native.Nat.{ℕ, _+_, _*_, _/_, _%_, _≤_}
+use Prim.Native.Nat.{_+_, _*_, _/_, _%_, _≤_}
 use native.Mathlib.Nat.{mod-lt}
 use native.Mathlib.Omega.{arith}
 use borrow.Author.Needs.{needs}
 use borrow.Author.Tests.{not-true, not-false}
-use Rattle.store.specs.declared.plan.Plan.{Plan}
 use Rattle.store.proofs.MarkLaws.{is-true, is-false}
-use Rattle.store.proofs.Places.{cut}
-use Rattle.engine.specs.declared.guarantees.Relation.{Relation}
-use Rattle.engine.specs.Uses.{Upto}
-use Rattle.engine.specs.RuleUses.{rowsIn, MovedUse}
-use Rattle.engine.proofs.PassLaws.{Flat, swept-with, swept-without, flat-upto, flat-under, flat-block}
+use Rattle.store.proofs.Places.{cut, parts}
+use Rattle.engine.proofs.PassLaws.{swept-with, swept-without, swept-under, swept-never, flat-line, flat-under}
 use Rattle.engine.proofs.guarantees.guarantee.Statement.{statement}
 use Rattle.engine.proofs.guarantees.guarantee.Tie as tie
 
--- the uses under the mark have one premise
-moved-flat : (rel : Relation) (s : Plan) (i : ℕ)
-    → Flat (Upto (MovedUse rel s (i / s .g / s .g) (i / s .g % s .g * s .l) (i % s .g * s .l)) (s .n))
-moved-flat rel s i = flat-upto (λ t. flat-under (flat-block _ _ (s .k) (s .l) (rowsIn rel s)))
-
-abbrev start : tie.Else1 → tie.Start
-start c = c .before .before .before .before
-
--- the pairs of the two shared stores
-cuts : (c : tie.Else1) → let s = start c .args .s in let i = start c .args .i in
-    (i / s .g % s .g * s .l + s .l ≤ s .k) × (i % s .g * s .l + s .l ≤ s .k) × (s .k ≤ 256)
-cuts c = let h = start c .pre .0 in (cut h _ (mod-lt _ (h .g-pos)), cut h _ (mod-lt _ (h .g-pos)), h .k-max)
+-- the two stretches of l facts are in the row
+ends : (c : tie.Start) → let a = c .args in let s = a .s in
+    (a .i / s .g % s .g * s .l + s .l ≤ s .k) × (a .i % s .g * s .l + s .l ≤ s .k) × (s .k ≤ 256) × (s .w ≤ 2360320)
+ends c =
+    let h = c .pre .0 in
+    (cut h _ (mod-lt _ (h .g-pos)), cut h _ (mod-lt _ (h .g-pos)), h .k-max, h .w-max)
 
 has-requires : tie.Need-has-requires
-has-requires c κs = search needs
+has-requires c κs = let (h, i, row, room) = c .before .before .pre in omega (arith, parts h)
 
 same-length : tie.Need-same-length
 same-length c = search needs
 
 returns : tie.Need-returns
 returns c =
-    let a = c .before .before .before .before .args in
-    swept-without (moved-flat (a .rel) (a .s) (a .i)) _ _
+    swept-without (flat-under (flat-line _ _ _)) _ _
     (is-false _ (c .before .has .ensures) (not-true (c .before .has .result) (c .if1 .taken)))
 
 div-j : tie.Need-div-j
 div-j c = search needs
 
-div-others : tie.Need-div-others
-div-others c = search needs
-
-rem-others : tie.Need-rem-others
-rem-others c = search needs
-
-mul-others : tie.Need-mul-others
-mul-others c = omega (arith, cuts c)
-
-rem-others-2 : tie.Need-rem-others-2
-rem-others-2 c = search needs
-
-mul-others-2 : tie.Need-mul-others-2
-mul-others-2 c = omega (arith, cuts c)
-
-others-requires : tie.Need-others-requires
-others-requires c κs = let at = c .before in (start at .pre .0, cuts at .0, cuts at .1, start at .pre .2)
+div-if2 : tie.Need-div-if2
+div-if2 c = search needs
 
 same-length-2 : tie.Need-same-length-2
 same-length-2 c = search needs
 
 returns-2 : tie.Need-returns-2
 returns-2 c =
+    let at = c .before .before in
+    swept-with (flat-under (flat-line _ _ _)) _
+    (is-true _ (at .has .ensures) (not-false (at .has .result) (c .before .if1 .left)))
+    (swept-never _ (λ n. n (c .if2 .taken)))
+
+rem-line : tie.Need-rem-line
+rem-line c = search needs
+
+mul-line : tie.Need-mul-line
+mul-line c = omega (arith, ends (c .before .before .before .before .before .before))
+
+add-line : tie.Need-add-line
+add-line c = omega (arith, ends (c .before .before .before .before .before .before))
+
+rem-line-2 : tie.Need-rem-line-2
+rem-line-2 c = search needs
+
+mul-line-2 : tie.Need-mul-line-2
+mul-line-2 c = omega (arith, ends (c .before .before .before .before .before .before))
+
+add-line-2 : tie.Need-add-line-2
+add-line-2 c = omega (arith, ends (c .before .before .before .before .before .before))
+
+line-requires : tie.Need-line-requires
+line-requires c κs =
+    let (h, i, row, room) = c .before .before .before .before .before .before .pre in
+    let e = ends (c .before .before .before .before .before .before) in
+    (omega arith, omega arith)
+
+same-length-3 : tie.Need-same-length-3
+same-length-3 c = search needs
+
+returns-3 : tie.Need-returns-3
+returns-3 c =
     let last = c .before .before in
-    let passed = last .before .before in
-    let a = start passed .args in
-    swept-with (moved-flat (a .rel) (a .s) (a .i)) _
-    (is-true _ (passed .before .has .ensures) (not-false (passed .before .has .result) (passed .if1 .left))) (last .others .ensures)
+    let test = last .before .before in
+    let at = test .before .before in
+    swept-with (flat-under (flat-line _ _ _)) _
+    (is-true _ (at .has .ensures) (not-false (at .has .result) (test .before .if1 .left)))
+    (swept-under (test .if2 .left) (last .line .ensures))
 
 pub guarantee-spec : {M : Type 1} → statement M
 guarantee-spec =
@@ -80,11 +89,15 @@ guarantee-spec =
     same-length
     returns
     div-j
-    div-others
-    rem-others
-    mul-others
-    rem-others-2
-    mul-others-2
-    others-requires
+    div-if2
     same-length-2
-    returns-2)
+    returns-2
+    rem-line
+    mul-line
+    add-line
+    rem-line-2
+    mul-line-2
+    add-line-2
+    line-requires
+    same-length-3
+    returns-3)

@@ -1,33 +1,63 @@
--- The rules, one after the other.
+-- The first t threads are done.
 -- Assumes nothing.
+use mathlib.Core.Path.{_≡_}
+use Prim.Native.Nat.{_≤_, _-_}
+use native.Mathlib.Omega.{arith}
 use borrow.Author.Needs.{needs}
-use Rattle.engine.proofs.PassLaws.{and-then}
+use Rattle.engine.specs.Uses.{Upto}
+use Rattle.engine.specs.Passing.{Swept}
+use Rattle.engine.specs.RuleUses.{ThreadUses}
+use Rattle.engine.proofs.PassLaws.{swept-room, swept-of, upto-none, upto-next}
 use Rattle.engine.proofs.passes.sweep.Statement.{statement}
 use Rattle.engine.proofs.passes.sweep.Tie as tie
 
-row-pass-requires : tie.Need-row-pass-requires
-row-pass-requires c κs = search needs
+abbrev Inv-loop : tie.InvT-loop
+Inv-loop s counts steps pushes pops mem₀ put n sofar₀ t₀ mem sofar t =
+    (t ≤ n) × Swept (Upto (ThreadUses s counts steps pushes pops) t) put sofar₀ sofar mem₀ mem
 
-calls-requires : tie.Need-calls-requires
-calls-requires c κs = search needs
+abbrev μ-loop : tie.MeasureT-loop
+μ-loop s counts steps pushes pops mem₀ put n sofar₀ t₀ mem sofar t = n - t
 
-guarantees-requires : tie.Need-guarantees-requires
-guarantees-requires c κs = search needs
+abbrev start : tie.At-loop Inv-loop μ-loop → tie.Start Inv-loop μ-loop
+start c = c .before .before .before .before .before
 
-guarantees-requires-2 : tie.Need-guarantees-requires-2
-guarantees-requires-2 c κs = search needs
+loop-holds : tie.Need-loop-holds Inv-loop μ-loop
+loop-holds c = (omega arith, upto-none _)
 
-same-length : tie.Need-same-length
-same-length c = search needs
+thread-requires : tie.Need-thread-requires Inv-loop μ-loop
+thread-requires c κs =
+    let at = c .before .before in
+    let (given, room) = start at .pre in
+    (given, c .before .loop-test .taken, omega (arith, swept-room (at .loop .inv .1)))
 
-returns : tie.Need-returns
+add-t : tie.Need-add-t Inv-loop μ-loop
+add-t c = search needs
+
+loop-less : tie.Need-loop-less Inv-loop μ-loop
+loop-less c = search needs
+
+loop-again : tie.Need-loop-again Inv-loop μ-loop
+loop-again c = let at = c .before .before in (omega arith, upto-next _ (at .before .before .before .loop .inv .1) (at .thread .ensures))
+
+same-length : tie.Need-same-length Inv-loop μ-loop
+same-length c = swept-room (c .before .loop .inv .1)
+
+returns : tie.Need-returns Inv-loop μ-loop
 returns c =
-    let fourth = c .before .before in
-    let third = fourth .before .before .before .before in
-    let second = third .before .before .before .before in
-    let first = second .before .before .before .before in
-    and-then (first .row-pass .ensures)
-    (and-then (second .calls .ensures) (and-then (third .guarantees .ensures) (fourth .guarantees2 .ensures)))
+    let a = start (c .before) .args in
+    let e : c .before .loop .t ≡ a .s .n = omega arith in
+    swept-of (Upto (ThreadUses (a .s) (a .counts) (a .steps .now) (a .pushes .now) (a .pops .now))) e (c .before .loop .inv .1)
 
 pub sweep-spec : {M : Type 1} → statement M
-sweep-spec = tie.close (tie.spec row-pass-requires calls-requires guarantees-requires guarantees-requires-2 same-length returns)
+sweep-spec =
+    tie.close
+    (tie.spec
+    Inv-loop
+    μ-loop
+    loop-holds
+    thread-requires
+    add-t
+    loop-less
+    loop-again
+    same-length
+    returns)

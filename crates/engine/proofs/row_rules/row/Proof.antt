@@ -1,77 +1,90 @@
--- The rule of each kind.
+-- The rule of each kind, if the row is the thread's.
 -- Assumes nothing.
 use mathlib.Core.Path.{sym, subst}
 use borrow.Author.Needs.{needs}
 use Rattle.engine.specs.declared.row_rules.Kind.{Kind}
-use Rattle.engine.specs.RuleUses.{KindIn, RowUse}
-use Rattle.engine.proofs.PassLaws.{swept-of}
+use Rattle.engine.specs.RuleUses.{KindIn, KindUse}
+use Rattle.engine.proofs.PassLaws.{swept-of, swept-under, swept-never}
 use Rattle.engine.proofs.row_rules.row.Statement.{statement}
 use Rattle.engine.proofs.row_rules.row.Tie as tie
+
+returns : tie.Need-returns
+returns c = swept-never _ (c .if1 .taken)
 
 enum-told : tie.Need-enum-told
 enum-told c = search needs
 
 step-requires : tie.Need-step-requires
 step-requires c κs =
-    let at = c .before .before .before .before in
-    (at .pre .0, subst (λ (k : Kind). KindIn k (at .args .s) (at .args .r)) (c .before .enum-told .given .1) (at .pre .1), at .pre .2)
+    let at = c .before .before .before .before .before .before in
+    let (h, t, a, in-range, room) = at .pre in
+    (h, t, a, subst (λ (k : Kind). KindIn k (at .args .s) (at .args .r)) (c .before .enum-told .given .1) in-range, room)
 
 same-length : tie.Need-same-length
 same-length c = search needs
 
-returns : tie.Need-returns
-returns c =
+returns-2 : tie.Need-returns-2
+returns-2 c =
     let last = c .before .before in
-    let a = last .before .before .before .before .before .args in
-    swept-of (λ (k : Kind). RowUse k (a .s) (a .r)) (sym (last .before .before .enum-told .given .1)) (last .step .ensures)
+    let test = last .before .before .before .before in
+    let a = test .before .before .before .args in
+    swept-under (test .if1 .left)
+    (swept-of (λ (k : Kind). KindUse k (a .s) (a .t) (a .a) (a .r)) (sym (last .before .before .enum-told .given .1)) (last .step .ensures))
 
 enum-told-2 : tie.Need-enum-told-2
 enum-told-2 c = search needs
 
 push-requires : tie.Need-push-requires
 push-requires c κs =
-    let at = c .before .before .before .before in
-    (at .pre .0, subst (λ (k : Kind). KindIn k (at .args .s) (at .args .r)) (c .before .enum-told2 .given .1) (at .pre .1), at .pre .2)
+    let at = c .before .before .before .before .before .before in
+    let (h, t, a, in-range, room) = at .pre in
+    (h, t, a, subst (λ (k : Kind). KindIn k (at .args .s) (at .args .r)) (c .before .enum-told2 .given .1) in-range, room)
 
 same-length-2 : tie.Need-same-length-2
 same-length-2 c = search needs
 
-returns-2 : tie.Need-returns-2
-returns-2 c =
+returns-3 : tie.Need-returns-3
+returns-3 c =
     let last = c .before .before in
-    let a = last .before .before .before .before .before .args in
-    swept-of (λ (k : Kind). RowUse k (a .s) (a .r)) (sym (last .before .before .enum-told2 .given .1)) (last .push .ensures)
+    let test = last .before .before .before .before in
+    let a = test .before .before .before .args in
+    swept-under (test .if1 .left)
+    (swept-of (λ (k : Kind). KindUse k (a .s) (a .t) (a .a) (a .r)) (sym (last .before .before .enum-told2 .given .1)) (last .push .ensures))
 
 enum-told-3 : tie.Need-enum-told-3
 enum-told-3 c = search needs
 
 pop-requires : tie.Need-pop-requires
 pop-requires c κs =
-    let at = c .before .before .before .before in
-    (at .pre .0, subst (λ (k : Kind). KindIn k (at .args .s) (at .args .r)) (c .before .enum-told3 .given .1) (at .pre .1), at .pre .2)
+    let at = c .before .before .before .before .before .before in
+    let (h, t, a, in-range, room) = at .pre in
+    (h, t, a, subst (λ (k : Kind). KindIn k (at .args .s) (at .args .r)) (c .before .enum-told3 .given .1) in-range, room)
 
 same-length-3 : tie.Need-same-length-3
 same-length-3 c = search needs
 
-returns-3 : tie.Need-returns-3
-returns-3 c =
+returns-4 : tie.Need-returns-4
+returns-4 c =
     let last = c .before .before in
-    let a = last .before .before .before .before .before .args in
-    swept-of (λ (k : Kind). RowUse k (a .s) (a .r)) (sym (last .before .before .enum-told3 .given .1)) (last .pop .ensures)
+    let test = last .before .before .before .before in
+    let a = test .before .before .before .args in
+    swept-under (test .if1 .left)
+    (swept-of (λ (k : Kind). KindUse k (a .s) (a .t) (a .a) (a .r)) (sym (last .before .before .enum-told3 .given .1)) (last .pop .ensures))
 
 pub row-spec : {M : Type 1} → statement M
 row-spec =
     tie.close
     (tie.spec
+    returns
     enum-told
     step-requires
     same-length
-    returns
+    returns-2
     enum-told-2
     push-requires
     same-length-2
-    returns-2
+    returns-3
     enum-told-3
     pop-requires
     same-length-3
-    returns-3)
+    returns-4)

@@ -11,10 +11,10 @@ use Rattle.engine.proofs.row_rules.rows_of.Statement.{statement}
 use Rattle.engine.proofs.row_rules.rows_of.Tie as tie
 
 abbrev Inv-loop : tie.InvT-loop
-Inv-loop kind s rows n mem₀ put pass i₀ mem sofar i = (i ≤ n) × Swept (RowUses kind s rows i) put pass sofar mem₀ mem
+Inv-loop kind s t a rows n mem₀ put sofar₀ i₀ mem sofar i = (i ≤ n) × Swept (RowUses kind s t a rows i) put sofar₀ sofar mem₀ mem
 
 abbrev μ-loop : tie.MeasureT-loop
-μ-loop kind s rows n mem₀ put pass i₀ mem sofar i = n - i
+μ-loop kind s t a rows n mem₀ put sofar₀ i₀ mem sofar i = n - i
 
 abbrev start : tie.At-loop Inv-loop μ-loop → tie.Start Inv-loop μ-loop
 start c = c .before .before .before
@@ -23,15 +23,17 @@ loop-holds : tie.Need-loop-holds Inv-loop μ-loop
 loop-holds c = (omega arith, upto-none _)
 
 row-at-requires : tie.Need-row-at-requires Inv-loop μ-loop
-row-at-requires c κs = omega (arith, start (c .before) .pre .1 .long)
+row-at-requires c κs = omega (arith, start (c .before) .pre .3 .long)
 
 row-requires : tie.Need-row-requires Inv-loop μ-loop
 row-requires c κs =
     let test = c .before .before in
-    let (h, in-range, room) = start (test .before) .pre in
-    let a = start (test .before) .args in (
+    let (h, t, a, in-range, room) = start (test .before) .pre in
+    let given = start (test .before) .args in (
       h,
-      subst (KindIn (a .kind) (a .s)) (sym (c .before .row-at .ensures)) (in-range .fit _ (test .loop-test .taken)),
+      t,
+      a,
+      subst (KindIn (given .kind) (given .s)) (sym (c .before .row-at .ensures)) (in-range .fit _ (test .loop-test .taken)),
       omega (arith, swept-room (test .before .loop .inv .1)),
     )
 
@@ -47,7 +49,7 @@ loop-again c =
     let at = last .before .before in
     let head = at .before .before in
     let a = start head .args in
-    (omega arith, upto-next _ (head .loop .inv .1) (swept-of (RowUse (a .kind) (a .s)) (at .row-at .ensures) (last .row .ensures)))
+    (omega arith, upto-next _ (head .loop .inv .1) (swept-of (RowUse (a .kind) (a .s) (a .t) (a .a)) (at .row-at .ensures) (last .row .ensures)))
 
 same-length : tie.Need-same-length Inv-loop μ-loop
 same-length c = swept-room (c .before .loop .inv .1)
@@ -56,7 +58,7 @@ returns : tie.Need-returns Inv-loop μ-loop
 returns c =
     let a = start (c .before) .args in
     let e : c .before .loop .i ≡ a .n = omega arith in
-    swept-of (RowUses (a .kind) (a .s) (a .rows .now)) e (c .before .loop .inv .1)
+    swept-of (RowUses (a .kind) (a .s) (a .t) (a .a) (a .rows .now)) e (c .before .loop .inv .1)
 
 pub rows-of-spec : {M : Type 1} → statement M
 rows-of-spec =

@@ -1,0 +1,25 @@
+-- The row stands below w, and the fact in it.
+-- Assumes nothing.
+use mathlib.Core.Path.{_≡_, ap}
+use Prim.Native.Nat.{_+_, _≤_, _<_}
+use native.Mathlib.Omega.{arith}
+use borrow.Author.Needs.{needs}
+use Rattle.store.specs.Plans.{pFrom}
+use Rattle.store.proofs.Places.{p-lt}
+use Rattle.store.proofs.plan.p_fact.Statement.{statement}
+use Rattle.store.proofs.plan.p_fact.Tie as tie
+
+below : (c : tie.Start) → let a = c .args in (pFrom (a .s) (a .t) (a .a) + a .c < a .s .w) × (a .s .w ≤ 2360320)
+below c = let (h, t, a, d) = c .pre in (p-lt h t a d, h .w-max)
+
+p-from-requires : tie.Need-p-from-requires
+p-from-requires c κs = search needs
+
+add-result : tie.Need-add-result
+add-result c = omega (arith, below (c .before), c .p-from .ensures)
+
+returns : tie.Need-returns
+returns c = (ap (λ z. z + c .before .args .c) (c .p-from .ensures), omega (arith, below (c .before), c .p-from .ensures))
+
+pub p-fact-spec : {M : Type 1} → statement M
+p-fact-spec = tie.close (tie.spec p-from-requires add-result returns)
