@@ -33,6 +33,11 @@ last-stays {A} {t} {u} (here l a h) b =
     here (omega arith) a (λ i x y. below-more (λ i. u < i → ¬ A i) t (λ i y x. h i x y) (λ x. b) i y x)
 last-stays (nowhere e h) b = nowhere e (none-more h b)
 
+-- if the last up to t is not t, then t is not in A
+pub last-not : {A : ℕ → Type 0} {n t u : ℕ} → Last A n (t + 1) u → ¬ (u ≡ t) → ¬ A t
+last-not {t} {u} (here l a h) ne = h t (omega arith) (omega arith)
+last-not {t} (nowhere e h) ne = h t (omega arith)
+
 -- ---- the thread that is picked
 
 module _ {R : ℕ → ℕ → Type 0} {n k u : ℕ} where

@@ -35,11 +35,13 @@ fn pick(s: Plan, mem: &[u8], g: usize, k: usize) -> usize
     let mut u = n;
     let mut t: usize = 0;
     while t < n {
-        let l = least(s, mem, t, g, 0);
-        if l == k {
-            return t;
-        }
         u = later(s, mem, t, g, k, u);
+        if u == t {
+            let l = least(s, mem, t, g, 0);
+            if l == k {
+                return t;
+            }
+        }
         t += 1;
     }
     u

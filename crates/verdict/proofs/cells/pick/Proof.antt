@@ -1,12 +1,14 @@
--- No thread before t has k for its smallest store, and u is the last of them that reaches k.
+-- No thread before t has k for its smallest store, and u is the last of them that reaches k. A thread that does not reach k has not k for its
+-- smallest.
 -- Assumes nothing.
 use mathlib.Core.Path.{_≡_, refl}
+use mathlib.Core.Logic.{⊎-elim}
 use Prim.Native.Nat.{ℕ, _-_, _≤_, _<_}
 use native.Mathlib.Omega.{arith}
 use borrow.Author.Needs.{needs}
 use Rattle.model.specs.Claims.{First}
 use Rattle.verdict.specs.Search.{Reached, Last, nowhere, already, forced}
-use Rattle.verdict.proofs.Numbers.{none-more}
+use Rattle.verdict.proofs.Numbers.{none-more, last-not}
 use Rattle.verdict.proofs.Reaching.{any-is-first, any-not-first}
 use Rattle.verdict.proofs.cells.pick.Statement.{statement}
 use Rattle.verdict.proofs.cells.pick.Tie as tie
@@ -21,18 +23,18 @@ abbrev μ-loop : tie.MeasureT-loop
 loop-holds : tie.Need-loop-holds Inv-loop μ-loop
 loop-holds c = (omega arith, λ i l. absurd (omega arith), nowhere refl (λ i l. absurd (omega arith)))
 
+later-requires : tie.Need-later-requires Inv-loop μ-loop
+later-requires c κs =
+    let h = c .before .before .before .pre in
+    (h .0, h .1, c .loop-test .taken, h .2, h .3, c .before .loop .inv .2)
+
 least-requires : tie.Need-least-requires Inv-loop μ-loop
 least-requires c κs = search needs
 
 returns : tie.Need-returns Inv-loop μ-loop
 returns c =
-    already (c .before .before .loop-test .taken)
-    (any-is-first (c .before .least .ensures) (c .if1 .taken) (c .before .before .before .before .before .pre .3))
-
-later-requires : tie.Need-later-requires Inv-loop μ-loop
-later-requires c κs =
-    let h = c .before .before .before .before .before .pre in
-    (h .0, h .1, c .before .before .loop-test .taken, h .2, h .3, c .before .before .before .loop .inv .2)
+    let start = c .before .before .before .before .before .before .before in
+    already (c .before .before .before .before .loop-test .taken) (any-is-first (c .before .least .ensures) (c .if2 .taken) (start .pre .3))
 
 add-t : tie.Need-add-t Inv-loop μ-loop
 add-t c = search needs
@@ -41,11 +43,14 @@ loop-less : tie.Need-loop-less Inv-loop μ-loop
 loop-less c = search needs
 
 loop-again : tie.Need-loop-again Inv-loop μ-loop
-loop-again c = (
-  omega arith,
-  none-more (c .before .before .before .before .loop .inv .1) (any-not-first (c .before .before .least .ensures) (c .before .if1 .left)),
-  c .later .ensures,
-)
+loop-again c =
+    let last = c .before .later .ensures in
+    let head = c .before .before .before in (
+      omega arith,
+      none-more (head .loop .inv .1)
+          (⊎-elim (λ w. any-not-first (w .1 .ensures) (w .2 .left)) (λ w f. last-not last (w .left) (f .here)) (c .if1 .came)),
+      last,
+    )
 
 returns-2 : tie.Need-returns-2 Inv-loop μ-loop
 returns-2 c =
@@ -61,9 +66,9 @@ pick-spec =
     Inv-loop
     μ-loop
     loop-holds
+    later-requires
     least-requires
     returns
-    later-requires
     add-t
     loop-less
     loop-again
