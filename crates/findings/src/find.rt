@@ -1,21 +1,16 @@
 // The answers 9, 10 and 11 of document 01, in this order, or none of them, on the facts that a memory marks.
 ghost use mathlib.Core.Path.{_≡_};
-ghost use mathlib.Core.List.{List};
-ghost use Prim.Native.Nat.{ℕ, _≤_};
+ghost use Prim.Native.Nat.{_≤_};
 ghost use lib.ListN.{length};
-ghost use Rattle.files.specs.Table.{Table, Sound, W};
+ghost use Rattle.files.specs.Table.{Table, W};
 ghost use Rattle.model.specs.Memory.{Marked};
 ghost use Rattle.model.specs.Claims.{Finds};
-ghost use Rattle.store.specs.Plans.{planOf};
-ghost use Rattle.engine.specs.Answers.{Confirmed};
-ghost use Rattle.verdict.specs.Judged.{Judged};
 ghost use Rattle.rules.specs.Lent.{Stored};
-ghost use Rattle.findings.specs.Found.{Started, findingOf};
+ghost use Rattle.findings.specs.Found.{findingOf};
 use crate::starts::lacking_start;
 use engine::run::missing;
 use files::header::Header;
 use files::table::Counts;
-use store::plan::Plan;
 use store::plan::plan_by;
 use store::rows::RowCounts;
 use verdict::search::Verdict;
@@ -33,33 +28,8 @@ pub enum Finding {
     AllowsError { row: usize },
 }
 
-// What is found first, in the order 9, 10, 11: where thread is the smallest that lacks its start fact or the number of threads, position the
-// smallest that is missing or W, and the verdict is the one on the same facts.
-fn first_found(s: Plan, thread: usize, position: usize, verdict: Verdict) -> Finding
-    ensures { λ r. ⌜ ((T : Table) (m : List ℕ) → Sound T → s ≡ planOf T → Started T m thread → Confirmed T m position → Judged T m verdict
-        → Finds T (Marked T m) (findingOf r)) ⌝ }
-{
-    if thread < s.n {
-        return Finding::LacksStart { thread };
-    }
-    if position < s.w {
-        return Finding::NotClosed { position };
-    }
-    match verdict {
-        Verdict::Safe => Finding::Accepted,
-        Verdict::Possible {
-            row,
-            g: _,
-            l0: _,
-            l1: _,
-            l2: _,
-            l3: _,
-        } => Finding::AllowsError { row },
-    }
-}
-
-// What is found of the facts that the first W bytes mark, for a table whose rows are stored. Each of the three is looked for, and the order
-// decides at the end. No byte is changed.
+// What is found of the facts that the first W bytes mark, for a table whose rows are stored. Each of the three is looked for only if the one
+// before it is not there. No byte is changed.
 pub fn find(
     header: Header,
     counts: Counts,
@@ -80,14 +50,29 @@ pub fn find(
     let start = header.start as usize;
     let firsts = header.firsts;
     let thread = lacking_start(s, start, &firsts, mem);
+    if thread < s.n {
+        return Finding::LacksStart { thread };
+    }
     let rows = RowCounts {
         steps: counts.steps,
         pushes: counts.pushes,
         pops: counts.pops,
     };
     let position = missing(s, rows, steps, pushes, pops, mem);
+    if position < s.w {
+        return Finding::NotClosed { position };
+    }
     let failed = header.failed as usize;
     let n = counts.errors;
-    let verdict = judge(s, failed, errors, n, mem);
-    first_found(s, thread, position, verdict)
+    match judge(s, failed, errors, n, mem) {
+        Verdict::Safe => Finding::Accepted,
+        Verdict::Possible {
+            row,
+            g: _,
+            l0: _,
+            l1: _,
+            l2: _,
+            l3: _,
+        } => Finding::AllowsError { row },
+    }
 }

@@ -1,4 +1,5 @@
 -- From the first W bytes to the whole memory: what the engine leaves in the part that is lent to it, with the verdict, is what the check answers.
+--     clear-zeros                                    a cleared memory is zeros
 --     over-here, done-here                           a cleared part; a part that holds the least relations, with the verdict
 --     answer-short, answer-over, answer-done         the answer, by the plan and by what the engine answers
 -- Assumes nothing.
@@ -25,7 +26,7 @@ use Rattle.rules.specs.declared.answer.Answer.the-variants.{Done, Short,
 use Rattle.rules.specs.Checking.{OfTable, short, over, done}
 
 -- a cleared memory is zeros
-clear-zeros : (m : List ℕ) → Clear m → m ≡ replicate (length m) 0
+pub clear-zeros : (m : List ℕ) → Clear m → m ≡ replicate (length m) 0
 clear-zeros m c =
     ext-getD 0 m (replicate (length m) 0) (sym (length-replicate (length m) 0)) λ p h. c p h ∙ sym (getD-replicate (length m) p 0 0 h)
 

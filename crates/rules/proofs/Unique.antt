@@ -30,7 +30,7 @@ use Rattle.rules.specs.Checking.{Cleared, Finished, OfTable, short, over
 
 -- ---- a memory by its two parts
 
-parts-same : (w : ℕ) {m m′ : List ℕ} → take w m ≡ take w m′ → drop w m ≡ drop w m′ → m ≡ m′
+pub parts-same : (w : ℕ) {m m′ : List ℕ} → take w m ≡ take w m′ → drop w m ≡ drop w m′ → m ≡ m′
 parts-same w {m} {m′} e q = sym (take-append-drop w m) ∙ ap₂ (λ (x y : List ℕ). x ++ y) e q ∙ take-append-drop w m′
 
 -- the two results
@@ -56,10 +56,10 @@ module _ {T : Table} (sound : Sound T) {budget : ℕ} where
 
 -- ---- one file
 
-got-table : {T T′ : Table} {n n′ : ℕ} → got T n ≡ got T′ n′ → T ≡ T′
+pub got-table : {T T′ : Table} {n n′ : ℕ} → got T n ≡ got T′ n′ → T ≡ T′
 got-table e = cc
 
-bad-refusal : {x y : Refusal} → _≡_ {A = Out Table} (bad x) (bad y) → x ≡ y
+pub bad-refusal : {x y : Refusal} → _≡_ {A = Out Table} (bad x) (bad y) → x ≡ y
 bad-refusal e = cc
 
 pub checked-same : {s : List ℕ} {budget : ℕ} {m m₁ m₂ : List ℕ} {a b : Answer}

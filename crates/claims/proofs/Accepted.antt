@@ -1,0 +1,97 @@
+-- What it means that a claim is accepted: the table is sound, the claimed facts are a closed set with the start facts and allow no error, so no
+-- run of the table meets an error state. And where the verdict on a table is "possible", no claim for it is accepted.
+--     accepted-table, accepted-claim                             the table and the claim were read
+--     accepted-sound, -closed, -safe, -counts, accepted-runs     what holds of them
+--     possible-never-accepted, check-possible-never-accepted     by the verdict, and by the check's answer
+--     closed-and-safe-accepted                                   and each claim of a closed set with the start facts that allows no error is accepted
+-- Assumes nothing.
+use mathlib.Core.Path.{_≡_, refl, subst⁻¹}
+use mathlib.Core.Option.{some}
+use mathlib.Core.List.{List}
+use Prim.Native.Nat.{ℕ, _≤_}
+use lib.ListN.{length}
+use Rattle.numbers.specs.Reading.{got}
+use Rattle.files.specs.Table.{Table, Sound, W}
+use Rattle.files.specs.File.{tableAt}
+use Rattle.files.proofs.TableLaws.{table-sound}
+use Rattle.model.specs.Rules.{Derives, ClosedWithStarts}
+use Rattle.model.specs.Runs.{State, Run}
+use Rattle.model.specs.Errors.{Witness, Safe, ErrorState}
+use Rattle.model.specs.Verdict.{Verdict}
+use Rattle.model.specs.Memory.{CountOf}
+use Rattle.model.specs.Claims.{Claimed, whole}
+use Rattle.model.proofs.AcceptedMeansSafe as model
+use Rattle.verdict.specs.declared.search.Verdict.the-variants.{Possible}
+use Rattle.rules.specs.declared.answer.Answer.the-variants.{Done}
+use Rattle.rules.specs.Checking.{Checked, read, done}
+use Rattle.claim_files.specs.ClaimFile.{claimAt}
+use Rattle.claim_files.proofs.ClaimIsModel.{claim-counts}
+use Rattle.claims.specs.declared.answer.ClaimAnswer.{ClaimAnswer}
+use Rattle.claims.specs.declared.answer.ClaimAnswer.the-variants.{Accepted}
+use Rattle.claims.specs.ClaimChecking as claims
+use Rattle.claims.specs.ClaimChecking.{Accepts, OfPositions, OfTable, claim-read, ClaimChecked, table-read}
+use Rattle.claims.proofs.ClaimCases.{table-was-read, claim-was-read, answer-by-finding}
+
+-- ---- what was read
+
+-- the claim was read, its count is the value, and it is accepted
+pub record AcceptedClaim (T : Table) (c m : List ℕ) (count : ℕ) (m′ : List ℕ) : Type 0 where
+  pub positions : List ℕ
+  pub next : ℕ
+  pub reads : claimAt (W T) c ≡ got positions next
+  pub counted : count ≡ length positions
+  pub accepts : Accepts T positions m m′
+
+accepted-positions : {T : Table} {ps m m′ : List ℕ} {count : ℕ} → OfPositions T ps m (Accepted count) m′ → (count ≡ length ps) × Accepts T ps m m′
+accepted-positions (claims.done a) = (refl, a)
+
+accepted-file : {T : Table} {c m m′ : List ℕ} {count : ℕ} → OfTable T c m (Accepted count) m′ → AcceptedClaim T c m count m′
+accepted-file (claim-read {ps} {next} h e o) =
+    let (k, a) = accepted-positions o in
+    record { positions = ps; next = next; reads = e; counted = k; accepts = a }
+
+module _ {s c m m′ : List ℕ} {count : ℕ} where
+  pub accepted-table : ClaimChecked s c m (Accepted count) m′ → (T : Table) × (n : ℕ) × (tableAt s ≡ got T n)
+  accepted-table (table-read {T} {next} e o) = (T, next, e)
+
+  module _ {T : Table} {n : ℕ} (e : tableAt s ≡ got T n) (h : ClaimChecked s c m (Accepted count) m′) where
+    pub accepted-claim : AcceptedClaim T c m count m′
+    accepted-claim = accepted-file (table-was-read e h)
+
+    -- ---- what holds of them
+
+    pub accepted-sound : Sound T
+    accepted-sound = table-sound s T n e
+
+    pub accepted-closed : ClosedWithStarts T (Claimed T (accepted-claim .positions))
+    accepted-closed = elim (accepted-claim .accepts .found) [ whole both safe ↦ both ]
+
+    pub accepted-safe : Safe T (Claimed T (accepted-claim .positions))
+    accepted-safe = elim (accepted-claim .accepts .found) [ whole both safe ↦ safe ]
+
+    -- the count is the number of the claimed facts
+    pub accepted-counts : CountOf T (Claimed T (accepted-claim .positions)) count
+    accepted-counts =
+        let a = accepted-claim in
+        subst⁻¹ (CountOf T (Claimed T (a .positions))) (a .counted) (claim-counts accepted-sound refl c (a .positions) (a .next) (a .reads))
+
+    -- no run of the table meets an error state
+    pub accepted-runs : {x : State} → Run T x → ¬ ErrorState T x
+    accepted-runs = model.accepted-runs accepted-sound (accepted-claim .accepts .found)
+
+-- ---- the verdict
+
+module _ {s c m m′ : List ℕ} {count : ℕ} where
+  pub possible-never-accepted : {T : Table} {n : ℕ} {w : Witness} → tableAt s ≡ got T n → Verdict T (Derives T) (some w)
+      → ¬ ClaimChecked s c m (Accepted count) m′
+  possible-never-accepted e v h = model.possible-never-accepted v (accepted-claim e h .accepts .found)
+
+  pub check-possible-never-accepted : {budget facts row g l0 l1 l2 l3 : ℕ} {k k′ : List ℕ}
+      → Checked s budget k (Done facts (Possible row g l0 l1 l2 l3)) k′ → ¬ ClaimChecked s c m (Accepted count) m′
+  check-possible-never-accepted (read e (done _ f)) = possible-never-accepted e (f .judged .verdict)
+
+-- ---- which claims are accepted
+
+pub closed-and-safe-accepted : {s c m m′ ps : List ℕ} {T : Table} {n next : ℕ} {a : ClaimAnswer} → tableAt s ≡ got T n → W T ≤ length m
+    → claimAt (W T) c ≡ got ps next → ClosedWithStarts T (Claimed T ps) → Safe T (Claimed T ps) → ClaimChecked s c m a m′ → a ≡ Accepted (length ps)
+closed-and-safe-accepted e room q both safe r = answer-by-finding (whole both safe) (claim-was-read room q (table-was-read e r))

@@ -1,0 +1,3 @@
+// Claims: what a claim that anyone wrote is worth for a table.
+pub mod answer;
+pub mod check;
