@@ -3,6 +3,7 @@
 --     accepted-table, accepted-claim                             the table and the claim were read
 --     accepted-sound, -closed, -safe, -counts, accepted-runs     what holds of them
 --     possible-never-accepted, check-possible-never-accepted     by the verdict, and by the check's answer
+--     check-safe-runs                                            what it means that the check says "safe"
 --     closed-and-safe-accepted                                   and each claim of a closed set with the start facts that allows no error is accepted
 -- Assumes nothing.
 use mathlib.Core.Path.{_≡_, refl, subst⁻¹}
@@ -21,9 +22,12 @@ use Rattle.model.specs.Verdict.{Verdict}
 use Rattle.model.specs.Memory.{CountOf}
 use Rattle.model.specs.Claims.{Claimed, whole}
 use Rattle.model.proofs.AcceptedMeansSafe as model
+use Rattle.verdict.specs.declared.search.Verdict.the-variants as judged
 use Rattle.verdict.specs.declared.search.Verdict.the-variants.{Possible}
 use Rattle.rules.specs.declared.answer.Answer.the-variants.{Done}
+use Rattle.rules.specs.Checking as checking
 use Rattle.rules.specs.Checking.{Checked, read, done}
+use Rattle.rules.proofs.Unique.{was-read}
 use Rattle.claim_files.specs.ClaimFile.{claimAt}
 use Rattle.claim_files.proofs.ClaimIsModel.{claim-counts}
 use Rattle.claims.specs.declared.answer.ClaimAnswer.{ClaimAnswer}
@@ -89,6 +93,14 @@ module _ {s c m m′ : List ℕ} {count : ℕ} where
   pub check-possible-never-accepted : {budget facts row g l0 l1 l2 l3 : ℕ} {k k′ : List ℕ}
       → Checked s budget k (Done facts (Possible row g l0 l1 l2 l3)) k′ → ¬ ClaimChecked s c m (Accepted count) m′
   check-possible-never-accepted (read e (done _ f)) = possible-never-accepted e (f .judged .verdict)
+
+-- where it is "safe", no run meets an error state
+pub check-safe-runs : {s k k′ : List ℕ} {T : Table} {n budget facts : ℕ} → tableAt s ≡ got T n → Checked s budget k (Done facts judged.Safe) k′
+    → {x : State} → Run T x → ¬ ErrorState T x
+check-safe-runs {s} {T = T} {n} e h = by (was-read e h)
+  where
+    by : {budget facts : ℕ} {k k′ : List ℕ} → checking.OfTable T budget k (Done facts judged.Safe) k′ → {x : State} → Run T x → ¬ ErrorState T x
+    by (done _ f) = model.safe-verdict-runs (table-sound s T n e) (f .judged .verdict)
 
 -- ---- which claims are accepted
 

@@ -20,7 +20,7 @@ use Rattle.files.specs.Table.{Table, W}
 use Rattle.files.specs.File.{tableAt}
 use Rattle.model.specs.Claims.{Finding, accepted, lacks-start, not-closed, allows-error}
 use Rattle.model.proofs.Unique.{holds-same, finding-same}
-use Rattle.rules.proofs.Unique.{parts-same, bad-refusal}
+use Rattle.rules.proofs.Unique.{Alike, unchanged, changed, alike-same, bad-refusal}
 use Rattle.claim_files.specs.ClaimFile.{claimAt}
 use Rattle.claims.specs.declared.answer.ClaimAnswer.{ClaimAnswer}
 use Rattle.claims.specs.declared.answer.ClaimAnswer.the-variants.{TableRefused, ClaimRefused}
@@ -59,15 +59,6 @@ module _ (T : Table) (ps m₁ n₁ : List ℕ) where
 
 -- ---- a table that was read, for memories of one length
 
--- nothing is changed; or the first w bytes come out the same, and the others are as they were
-data Alike (w : ℕ) (m n : List ℕ) : List ℕ → List ℕ → Type 0 where
-  unchanged : Alike w m n m n
-  written : {m₁ n₁ : List ℕ} → take w m₁ ≡ take w n₁ → drop w m₁ ≡ drop w m → drop w n₁ ≡ drop w n → Alike w m n m₁ n₁
-
-alike-same : {w : ℕ} {m m₁ m₂ : List ℕ} → Alike w m m m₁ m₂ → m₁ ≡ m₂
-alike-same unchanged = refl
-alike-same {w} (written e r r′) = parts-same w e (r ∙ sym r′)
-
 bad-claim : {x y : Refusal} → _≡_ {A = Out (List ℕ)} (bad x) (bad y) → x ≡ y
 bad-claim e = cc
 
@@ -84,7 +75,7 @@ table-alike long (claim-read h e o) (claim-refused h′ e′) = let q = sym e �
 table-alike {T} {m₁ = m₁} {n₁} long (claim-read {ps} h e o) (claim-read h′ e′ o′) =
     let p = claim-was-read h′ e (claim-read h′ e′ o′) in
     let (q, bytes) = positions-same T ps m₁ n₁ o p in
-    (q, written bytes (worked o .rest) (worked p .rest))
+    (q, changed bytes (worked o .rest) (worked p .rest))
 
 -- ---- the claim check, for memories of one length
 

@@ -3,12 +3,12 @@ ghost use mathlib.Core.List.{List};
 ghost use Prim.Native.Nat.{ℕ, _≤_};
 ghost use lib.ListN.{length};
 ghost use Rattle.files.specs.Table.{Table};
-ghost use Rattle.rules.specs.Checking.{Cleared};
 ghost use Rattle.rules.specs.Lent.{Stored};
 ghost use Rattle.claim_files.specs.ClaimFile.{mostFacts, claimAt, IsClaim, positionsOf};
 ghost use Rattle.claims.specs.ClaimChecking.{OfPositions, OfTable, ClaimChecked};
 ghost use Rattle.claims.specs.ClaimLent.{Lent, MarkedIn};
 use crate::answer::ClaimAnswer;
+use crate::clearing::clear_first;
 use claim_files::reading::Claimed;
 use files::header::Header;
 use files::table::Counts;
@@ -21,14 +21,6 @@ fn mark_in(claim: &[u8], w: usize, mem: &mut [u8])
     ensures { λ _. ⌜ MarkedIn w (positionsOf (claimAt w (now (claim .entry)))) (now (mem .entry)) (now (mem .exit)) ⌝ }
 {
     claim_files::reading::mark_claim(claim, w, &mut mem[..w]);
-}
-
-// Clears the first w bytes of a memory.
-fn clear_in(w: usize, mem: &mut [u8])
-    requires { ⌜ w ≤ length (now mem) ⌝ }
-    ensures { λ _. ⌜ Cleared w (now (mem .entry)) (now (mem .exit)) ⌝ }
-{
-    store::marks::clear(&mut mem[..w]);
 }
 
 // Checks a claim that was read, of `count` facts, against a table whose rows are stored and that has room for w facts.
@@ -54,15 +46,15 @@ fn check_facts(
     match findings::find::find(header, counts, steps, pushes, pops, errors, mem) {
         Finding::Accepted => ClaimAnswer::Accepted { count },
         Finding::LacksStart { thread } => {
-            clear_in(w, mem);
+            clear_first(mem, w);
             ClaimAnswer::LacksStart { thread }
         }
         Finding::NotClosed { position } => {
-            clear_in(w, mem);
+            clear_first(mem, w);
             ClaimAnswer::NotClosed { position }
         }
         Finding::AllowsError { row } => {
-            clear_in(w, mem);
+            clear_first(mem, w);
             ClaimAnswer::AllowsError { row }
         }
     }

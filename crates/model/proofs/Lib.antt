@@ -8,7 +8,7 @@
 --   Unique             the memory, the count, the smallest numbers, the verdict and the finding are determined
 --   Claims             what a claim check finds by looking at marks
 --   Decide             the least relations, the verdict and the finding decided by evaluation, for lists of facts
---   Tables             the reference tables of document 01, so decided
+--   Simple             the training table and its mutex of document 01, so decided
 -- Lists, Counting, Order and Monotone are what these share.
 pub mod AcceptedMeansSafe
 pub mod RunsAreHeld
@@ -19,7 +19,7 @@ pub mod Memory
 pub mod Unique
 pub mod Claims
 pub mod Decide
-pub mod Tables
+pub mod Simple
 pub mod Lists
 pub mod Counting
 pub mod Order

@@ -37,39 +37,63 @@ parts-same w {m} {m′} e q = sym (take-append-drop w m) ∙ ap₂ (λ (x y : Li
 abbrev Same : Answer → Answer → List ℕ → List ℕ → Type 0
 Same a b m m′ = (a ≡ b) × (m ≡ m′)
 
--- ---- one table
+-- ---- one table, for memories of one length
+
+-- nothing is changed; or the first w bytes come out the same, and the others are as they were
+pub data Alike (w : ℕ) (m n : List ℕ) : List ℕ → List ℕ → Type 0 where
+  unchanged : Alike w m n m n
+  changed : {m₁ n₁ : List ℕ} → take w m₁ ≡ take w n₁ → drop w m₁ ≡ drop w m → drop w n₁ ≡ drop w n → Alike w m n m₁ n₁
+
+pub alike-same : {w : ℕ} {m m₁ m₂ : List ℕ} → Alike w m m m₁ m₂ → m₁ ≡ m₂
+alike-same unchanged = refl
+alike-same {w} (changed e r r′) = parts-same w e (r ∙ sym r′)
 
 module _ {T : Table} (sound : Sound T) {budget : ℕ} where
-  table-same : {m m₁ m₂ : List ℕ} {a b : Answer} → OfTable T budget m a m₁ → OfTable T budget m b m₂ → Same a b m₁ m₂
-  table-same (short l) (short l′) = (refl, refl)
-  table-same (short l) (over h x c) = absurd (omega arith)
-  table-same (short l) (done h f) = absurd (omega arith)
-  table-same (over h x c) (short l) = absurd (omega arith)
-  table-same (over h x c) (over h′ x′ c′) = (refl, parts-same (W T) (c .zeros ∙ sym (c′ .zeros)) (c .rest ∙ sym (c′ .rest)))
-  table-same (over h x c) (done h′ f) = let l = exceeds-count sound x (f .counted) in absurd (omega (arith, f .within))
-  table-same (done h f) (short l) = absurd (omega arith)
-  table-same (done h f) (over h′ x c) = let l = exceeds-count sound x (f .counted) in absurd (omega (arith, f .within))
-  table-same (done h f) (done h′ f′) =
-      let e = fact-count-same T (f .counted) (f′ .counted) in
+  table-alike : {m n m₁ n₁ : List ℕ} {a b : Answer} → length m ≡ length n → OfTable T budget m a m₁ → OfTable T budget n b n₁
+      → (a ≡ b) × Alike (W T) m n m₁ n₁
+  table-alike e (short l) (short l′) = (refl, unchanged)
+  table-alike e (short l) (over h x c) = absurd (omega arith)
+  table-alike e (short l) (done h f) = absurd (omega arith)
+  table-alike e (over h x c) (short l) = absurd (omega arith)
+  table-alike e (over h x c) (over h′ x′ c′) = (refl, changed (c .zeros ∙ sym (c′ .zeros)) (c .rest) (c′ .rest))
+  table-alike e (over h x c) (done h′ f) = let l = exceeds-count sound x (f .counted) in absurd (omega (arith, f .within))
+  table-alike e (done h f) (short l) = absurd (omega arith)
+  table-alike e (done h f) (over h′ x c) = let l = exceeds-count sound x (f .counted) in absurd (omega (arith, f .within))
+  table-alike e (done h f) (done h′ f′) =
+      let q = fact-count-same T (f .counted) (f′ .counted) in
       let v = answers-same (f .judged) (f′ .judged) in
-      (λ i. Done (e i) (v i), parts-same (W T) (holds-same (f .relations) (f′ .relations)) (f .rest ∙ sym (f′ .rest)))
+      (λ i. Done (q i) (v i), changed (holds-same (f .relations) (f′ .relations)) (f .rest) (f′ .rest))
 
 -- ---- one file
 
 pub got-table : {T T′ : Table} {n n′ : ℕ} → got T n ≡ got T′ n′ → T ≡ T′
 got-table e = cc
 
+-- the table that a file holds is the one that was checked
+pub was-read : {s : List ℕ} {budget : ℕ} {m m₁ : List ℕ} {a : Answer} {T : Table} {k : ℕ} → tableAt s ≡ got T k → Checked s budget m a m₁
+    → OfTable T budget m a m₁
+was-read e (refused e′) = let q = sym e ∙ e′ in never (cc)
+was-read {budget = budget} {m} {m₁} {a} e (read e′ o) = rw (got-table (sym e ∙ e′)) o
+
 pub bad-refusal : {x y : Refusal} → _≡_ {A = Out Table} (bad x) (bad y) → x ≡ y
 bad-refusal e = cc
+
+-- what the memory held before changes neither the answer nor what is worked out in it
+pub checked-alike : {s : List ℕ} {budget : ℕ} {m n m₁ n₁ : List ℕ} {a b : Answer} {T : Table} {k : ℕ} → length m ≡ length n
+    → tableAt s ≡ got T k → Checked s budget m a m₁ → Checked s budget n b n₁ → (a ≡ b) × Alike (W T) m n m₁ n₁
+checked-alike {s} {T = T} {k} long e r r′ = table-alike (table-sound s T k e) long (was-read e r) (was-read e r′)
+
+pub checked-answer : {s : List ℕ} {budget : ℕ} {m n m₁ n₁ : List ℕ} {a b : Answer} → length m ≡ length n
+    → Checked s budget m a m₁ → Checked s budget n b n₁ → a ≡ b
+checked-answer long (refused e) (refused e′) = ap Refused (bad-refusal (sym e ∙ e′))
+checked-answer long (refused e) (read e′ o) = let q = sym e ∙ e′ in never (cc)
+checked-answer long (read e o) r = checked-alike long e (read e o) r .0
 
 pub checked-same : {s : List ℕ} {budget : ℕ} {m m₁ m₂ : List ℕ} {a b : Answer}
     → Checked s budget m a m₁ → Checked s budget m b m₂ → Same a b m₁ m₂
 checked-same (refused e) (refused e′) = (ap Refused (bad-refusal (sym e ∙ e′)), refl)
 checked-same (refused e) (read e′ o) = let q = sym e ∙ e′ in never (cc)
-checked-same (read e o) (refused e′) = let q = sym e ∙ e′ in never (cc)
-checked-same {s} {budget} {m} {a} {b} (read {T} {next} {m′} e o) (read {T = T′} {m′ = m″} e′ o′) =
-    let q : T′ ≡ T = got-table (sym e′ ∙ e) in
-    table-same (table-sound s T next e) o (rw q at o′)
+checked-same (read e o) r = let (q, bytes) = checked-alike refl e (read e o) r in (q, alike-same bytes)
 
 -- ---- the contracts as the prover reads them from the source
 

@@ -38,20 +38,20 @@ enum-told c = search needs
 enum-known-thread : tie.Need-enum-known-thread
 enum-known-thread c = search needs
 
-clear-in-requires : tie.Need-clear-in-requires
-clear-in-requires c κs = search needs
+clear-first-requires : tie.Need-clear-first-requires
+clear-first-requires c κs = search needs
 
 enum-known-position : tie.Need-enum-known-position
 enum-known-position c = search needs
 
-clear-in-requires-2 : tie.Need-clear-in-requires-2
-clear-in-requires-2 c κs = search needs
+clear-first-requires-2 : tie.Need-clear-first-requires-2
+clear-first-requires-2 c κs = search needs
 
 enum-known-row : tie.Need-enum-known-row
 enum-known-row c = search needs
 
-clear-in-requires-3 : tie.Need-clear-in-requires-3
-clear-in-requires-3 c κs = search needs
+clear-first-requires-3 : tie.Need-clear-first-requires-3
+clear-first-requires-3 c κs = search needs
 
 same-length : tie.Need-same-length
 same-length c = search needs
@@ -71,7 +71,7 @@ returns-2 c =
     let f : tie.After-find = arm .before .before .before .before in
     let a = marking f in
     λ T ps l. answer-lacking l (enough a) (a .mark-in .ensures) (f .find .ensures .0 T (l .stored)) (f .find .ensures .1)
-    (c .before .before .clear-in .ensures) (arm .thread .given .1)
+    (c .before .before .clear-first .ensures) (arm .thread .given .1)
 
 same-length-3 : tie.Need-same-length-3
 same-length-3 c = search needs
@@ -82,7 +82,7 @@ returns-3 c =
     let f : tie.After-find = arm .before .before .before .before in
     let a = marking f in
     λ T ps l. answer-missing l (enough a) (a .mark-in .ensures) (f .find .ensures .0 T (l .stored)) (f .find .ensures .1)
-    (c .before .before .clear-in2 .ensures) (arm .position .given .1)
+    (c .before .before .clear-first2 .ensures) (arm .position .given .1)
 
 same-length-4 : tie.Need-same-length-4
 same-length-4 c = search needs
@@ -93,7 +93,7 @@ returns-4 c =
     let f : tie.After-find = arm .before .before .before .before in
     let a = marking f in
     λ T ps l. answer-allowing l (enough a) (a .mark-in .ensures) (f .find .ensures .0 T (l .stored)) (f .find .ensures .1)
-    (c .before .before .clear-in3 .ensures) (arm .row .given .1)
+    (c .before .before .clear-first3 .ensures) (arm .row .given .1)
 
 pub check-facts-spec : {M : Type 1} → statement M
 check-facts-spec =
@@ -103,11 +103,11 @@ check-facts-spec =
     find-requires
     enum-told
     enum-known-thread
-    clear-in-requires
+    clear-first-requires
     enum-known-position
-    clear-in-requires-2
+    clear-first-requires-2
     enum-known-row
-    clear-in-requires-3
+    clear-first-requires-3
     same-length
     returns
     same-length-2

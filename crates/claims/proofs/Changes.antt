@@ -1,0 +1,78 @@
+-- Which refusals change what (document 01, "What comes back": "1 to 7 change nothing; 8 to 12 set the first W bytes to 0."), by the number of each
+-- call's answer.
+-- Assumes nothing.
+use mathlib.Core.Path.{_≡_, refl}
+use mathlib.Core.List.{List}
+use Prim.Native.Nat.{ℕ, _≤_}
+use native.Mathlib.Omega.{arith}
+use Rattle.numbers.specs.declared.refusals.Refusal.{Refusal}
+use Rattle.numbers.specs.declared.refusals.Refusal.the-variants.{Cut, Long, Version, Outside, NotAbove, After}
+use Rattle.numbers.specs.Refusals.{toldOf}
+use Rattle.numbers.specs.Reading.{got}
+use Rattle.files.specs.Table.{Table, W}
+use Rattle.files.specs.File.{tableAt}
+use Rattle.rules.specs.declared.answer.Answer.{Answer}
+use Rattle.rules.specs.Answers.{replyOf}
+use Rattle.rules.specs.Checking as check
+use Rattle.rules.specs.Checking.{Cleared, Checked}
+use Rattle.claims.specs.declared.answer.ClaimAnswer.{ClaimAnswer}
+use Rattle.claims.specs.declared.write_answer.WriteAnswer.{WriteAnswer}
+use Rattle.claims.specs.Answers as claim
+use Rattle.claims.specs.ClaimChecking as claims
+use Rattle.claims.specs.ClaimChecking.{ClaimChecked}
+use Rattle.claims.specs.WriteAnswers.{writeReplyOf}
+use Rattle.claims.specs.ClaimWriting as writing
+use Rattle.claims.specs.ClaimWriting.{ClaimWritten}
+
+-- the first W bytes are cleared, for the table that the file holds, and the others are as they were
+pub record Clears (s m m′ : List ℕ) : Type 0 where
+  pub table : Table
+  pub next : ℕ
+  pub is : tableAt s ≡ got table next
+  pub cleared : Cleared (W table) m m′
+
+-- what an answer of this number leaves of a memory
+pub record Changes (s m m′ : List ℕ) (number : ℕ) : Type 0 where
+  pub nothing : 1 ≤ number → number ≤ 7 → m′ ≡ m
+  pub clears : 8 ≤ number → Clears s m m′
+
+unchanged : {s m : List ℕ} {number : ℕ} → number ≤ 7 → Changes s m m number
+unchanged l = record { nothing = λ _ _. refl; clears = λ h. absurd (omega arith) }
+
+finished : {s m m′ : List ℕ} → Changes s m m′ 0
+finished = record { nothing = λ h. absurd (omega arith); clears = λ h. absurd (omega arith) }
+
+clearing : {s m m′ : List ℕ} {number : ℕ} {T : Table} {n : ℕ} → 8 ≤ number → tableAt s ≡ got T n → Cleared (W T) m m′ → Changes s m m′ number
+clearing l e c = record { nothing = λ _ h. absurd (omega arith); clears = λ _. record { table = _; next = _; is = e; cleared = c } }
+
+told-low : (x : Refusal) → toldOf x .number ≤ 7
+told-low (Cut length) = omega arith
+told-low (Long at) = omega arith
+told-low Version = omega arith
+told-low (Outside at) = omega arith
+told-low (NotAbove at) = omega arith
+told-low (After at) = omega arith
+
+pub check-changes : {s : List ℕ} {budget : ℕ} {m m′ : List ℕ} {a : Answer} → Checked s budget m a m′ → Changes s m m′ (replyOf a .number)
+check-changes (check.refused {x} e) = unchanged (told-low x)
+check-changes (check.read e (check.short l)) = unchanged (omega arith)
+check-changes (check.read e (check.over h x c)) = clearing (omega arith) e c
+check-changes (check.read e (check.done h f)) = finished
+
+pub claim-changes : {s c m m′ : List ℕ} {a : ClaimAnswer} → ClaimChecked s c m a m′ → Changes s m m′ (claim.replyOf a .number)
+claim-changes (claims.table-refused {x} e) = unchanged (told-low x)
+claim-changes (claims.table-read e (claims.short l)) = unchanged (omega arith)
+claim-changes (claims.table-read e (claims.claim-refused {x} h q)) = unchanged (told-low x)
+claim-changes (claims.table-read e (claims.claim-read h q (claims.done x))) = finished
+claim-changes (claims.table-read e (claims.claim-read h q (claims.lacking x))) = clearing (omega arith) e (x .cleared)
+claim-changes (claims.table-read e (claims.claim-read h q (claims.missing x))) = clearing (omega arith) e (x .cleared)
+claim-changes (claims.table-read e (claims.claim-read h q (claims.allowing x))) = clearing (omega arith) e (x .cleared)
+
+-- and no refusal touches the space
+pub write-changes : {s : List ℕ} {budget : ℕ} {m d m′ d′ : List ℕ} {a : WriteAnswer} → ClaimWritten s budget m d a m′ d′
+    → Changes s m m′ (writeReplyOf a .number) × (1 ≤ writeReplyOf a .number → d′ ≡ d)
+write-changes (writing.refused c) = (check-changes c, λ _. refl)
+write-changes (writing.short c) = (check-changes c, λ _. refl)
+write-changes (writing.over c) = (check-changes c, λ _. refl)
+write-changes (writing.no-space c of l z) = (clearing (omega arith) (of .is) z, λ _. refl)
+write-changes (writing.written c of l) = (finished, λ h. absurd (omega arith))

@@ -1,0 +1,131 @@
+-- What we owe: the three demands of document 00, of the calls' own contracts. Open this file first.
+--     Checked       what the check promises (rules/specs/Checking.antt)
+--     ClaimChecked  what the claim check promises (specs/ClaimChecking.antt)
+--     ClaimWritten  what claim writing promises (specs/ClaimWriting.antt)
+-- Each of the three functions is proved to end and to meet its contract on every input, with no `requires`. Here s is a table's file and c a
+-- claim's; m is the working memory before a call and m′ after it; d is the space for a claim, and d′ the space after the call.
+-- Assumes nothing.
+use mathlib.Core.Path.{_≡_, sym, ap, _∙_}
+use mathlib.Core.List.{List}
+use Prim.Native.Nat.{ℕ, _≤_}
+use lib.ListN.{length, take}
+use Rattle.numbers.specs.Reading.{got}
+use Rattle.files.specs.Table.{Table, Sound, W}
+use Rattle.files.specs.File.{tableAt}
+use Rattle.files.proofs.TableLaws.{table-sound}
+use Rattle.model.specs.Runs.{State, Run}
+use Rattle.model.specs.Errors.{ErrorState}
+use Rattle.verdict.specs.declared.search.Verdict.{Verdict}
+use Rattle.verdict.specs.declared.search.Verdict.the-variants.{Safe, Possible}
+use Rattle.rules.specs.declared.answer.Answer.{Answer}
+use Rattle.rules.specs.declared.answer.Answer.the-variants.{Done}
+use Rattle.rules.specs.Answers.{replyOf}
+use Rattle.rules.specs.Checking.{Checked}
+use Rattle.rules.proofs.Unique.{checked-same, checked-answer}
+use Rattle.claim_files.specs.ClaimFile.{claimAt}
+use Rattle.claims.specs.declared.answer.ClaimAnswer.{ClaimAnswer}
+use Rattle.claims.specs.declared.answer.ClaimAnswer.the-variants.{Accepted}
+use Rattle.claims.specs.declared.write_answer.WriteAnswer.{WriteAnswer}
+use Rattle.claims.specs.declared.write_answer.WriteAnswer.the-variants.{Written}
+use Rattle.claims.specs.Answers as claim
+use Rattle.claims.specs.ClaimChecking.{OfPositions, ClaimChecked}
+use Rattle.claims.specs.WriteAnswers.{writeReplyOf}
+use Rattle.claims.specs.ClaimWriting.{ClaimOf, ClaimWritten}
+use Rattle.claims.proofs.Changes.{Changes, check-changes, claim-changes, write-changes}
+use Rattle.claims.proofs.ClaimCases.{table-was-read, claim-was-read, answer-by-finding}
+use Rattle.claims.proofs.Accepted as accepting
+use Rattle.claims.proofs.PositionsOfFacts.{CheckDone, check-done}
+use Rattle.claims.proofs.WrittenLaws.{WrittenClaim, written-claim, claim-one-to-one, safe-claim-accepted}
+use Rattle.claims.proofs.Unique.{claim-checked-same, claim-answer-same}
+use Rattle.claims.proofs.WriteUnique.{claim-written-same, claim-written-answer}
+
+-- ---- Demand 1: an answer, always
+
+-- a table that is let in has every number in its own column's range
+pub read-in-range : (s : List ℕ) {T : Table} {n : ℕ} → tableAt s ≡ got T n → Sound T
+read-in-range s {T} {n} e = table-sound s T n e
+
+module _ {s : List ℕ} where
+  module _ {budget : ℕ} {m m₁ m₂ : List ℕ} {a b : Answer} where
+    -- the inputs determine the answer and every byte
+    pub check-determined : Checked s budget m a m₁ → Checked s budget m b m₂ → (a ≡ b) × (m₁ ≡ m₂)
+    check-determined = checked-same
+
+    -- what the memory held before changes no answer
+    pub check-whatever-held : {n : List ℕ} → length m ≡ length n → Checked s budget m a m₁ → Checked s budget n b m₂ → a ≡ b
+    check-whatever-held = checked-answer
+
+  -- refusals 1 to 7 change nothing, 8 clears the first W bytes and changes nothing else
+  pub check-leaves : {budget : ℕ} {m m′ : List ℕ} {a : Answer} → Checked s budget m a m′ → Changes s m m′ (replyOf a .number)
+  check-leaves = check-changes
+
+  module _ {c m m₁ m₂ : List ℕ} {a b : ClaimAnswer} where
+    pub claim-check-determined : ClaimChecked s c m a m₁ → ClaimChecked s c m b m₂ → (a ≡ b) × (m₁ ≡ m₂)
+    claim-check-determined = claim-checked-same
+
+    pub claim-check-whatever-held : {n : List ℕ} → length m ≡ length n → ClaimChecked s c m a m₁ → ClaimChecked s c n b m₂ → a ≡ b
+    claim-check-whatever-held = claim-answer-same
+
+  -- 9, 10 and 11 clear
+  pub claim-check-leaves : {c m m′ : List ℕ} {a : ClaimAnswer} → ClaimChecked s c m a m′ → Changes s m m′ (claim.replyOf a .number)
+  claim-check-leaves = claim-changes
+
+  module _ {budget : ℕ} {m d m₁ m₂ d₁ d₂ : List ℕ} {a b : WriteAnswer} where
+    pub claim-writing-determined : ClaimWritten s budget m d a m₁ d₁ → ClaimWritten s budget m d b m₂ d₂ → (a ≡ b) × (m₁ ≡ m₂) × (d₁ ≡ d₂)
+    claim-writing-determined = claim-written-same
+
+    -- nor what is written
+    pub claim-writing-whatever-held : {n : List ℕ} → length m ≡ length n → ClaimWritten s budget m d a m₁ d₁ → ClaimWritten s budget n d b m₂ d₂
+        → (a ≡ b) × (d₁ ≡ d₂)
+    claim-writing-whatever-held = claim-written-answer
+
+  -- 8 and 12 clear; the space is untouched by every refusal
+  pub claim-writing-leaves : {budget : ℕ} {m d m′ d′ : List ℕ} {a : WriteAnswer} → ClaimWritten s budget m d a m′ d′
+      → Changes s m m′ (writeReplyOf a .number) × (1 ≤ writeReplyOf a .number → d′ ≡ d)
+  claim-writing-leaves = write-changes
+
+-- ---- Demand 2: exactly the published rules
+
+-- a finished check: for the table that the file holds, the memory holds the least relations, the count is the number of their facts, and the
+-- verdict with its smallest witness is theirs
+pub done-exactly : {s : List ℕ} {budget : ℕ} {m : List ℕ} {count : ℕ} {verdict : Verdict} {m′ : List ℕ}
+    → Checked s budget m (Done count verdict) m′ → CheckDone s budget m count verdict m′
+done-exactly = check-done
+
+-- given a sound table and memory enough, a claim of the right layout is refused only for what is found of its facts: a start fact that lacks, a
+-- fact that one use of the rules yields and that is not claimed, or an error that it allows
+pub refused-only-for : {s c ps m m′ : List ℕ} {T : Table} {n next : ℕ} {a : ClaimAnswer} → tableAt s ≡ got T n → W T ≤ length m
+    → claimAt (W T) c ≡ got ps next → ClaimChecked s c m a m′ → OfPositions T ps m a m′
+refused-only-for e room reads h = claim-was-read room reads (table-was-read e h)
+
+-- reading what was written gives exactly the table's facts, and writing is one to one
+pub written-read-back : {s : List ℕ} {budget : ℕ} {m d : List ℕ} {count : ℕ} {verdict : Verdict} {bytes : ℕ} {m′ d′ : List ℕ}
+    → ClaimWritten s budget m d (Written count verdict bytes) m′ d′ → WrittenClaim s count verdict bytes (take bytes d′)
+written-read-back = written-claim
+
+pub written-one-to-one : {s s′ bytes : List ℕ} {T T′ : Table} (c : ClaimOf s T bytes) (c′ : ClaimOf s′ T′ bytes) → c .positions ≡ c′ .positions
+written-one-to-one = claim-one-to-one
+
+-- ---- Demand 3: safe means safe
+
+module _ {s : List ℕ} {T : Table} {n : ℕ} (e : tableAt s ≡ got T n) where
+  -- a claim from anyone's tool is accepted: no run of the table meets an error state
+  pub accepted-means-safe : {c m m′ : List ℕ} {count : ℕ} → ClaimChecked s c m (Accepted count) m′ → {x : State} → Run T x → ¬ ErrorState T x
+  accepted-means-safe = accepting.accepted-runs e
+
+  -- the same if the check says safe
+  pub safe-means-safe : {budget : ℕ} {m m′ : List ℕ} {count : ℕ} → Checked s budget m (Done count Safe) m′ → {x : State} → Run T x → ¬ ErrorState T x
+  safe-means-safe = accepting.check-safe-runs e
+
+-- when the check says safe and the claim has room, the written claim is accepted
+pub safe-is-accepted : {s : List ℕ} {budget : ℕ} {m d : List ℕ} {count bytes : ℕ} {m′ d′ n n′ : List ℕ} {a : ClaimAnswer}
+    → (w : ClaimWritten s budget m d (Written count Safe bytes) m′ d′) → W (written-claim w .table) ≤ length n
+    → ClaimChecked s (take bytes d′) n a n′ → a ≡ Accepted count
+safe-is-accepted w room h =
+    let k = written-claim w in
+    answer-by-finding (safe-claim-accepted k) (claim-was-read room (k .reads) (table-was-read (k .claim .is) h)) ∙ ap Accepted (sym (k .counts))
+
+-- when it says possible, every claim for that table is refused
+pub possible-is-refused : {s c : List ℕ} {budget : ℕ} {m m′ k k′ : List ℕ} {facts count row g l0 l1 l2 l3 : ℕ}
+    → Checked s budget k (Done facts (Possible row g l0 l1 l2 l3)) k′ → ¬ ClaimChecked s c m (Accepted count) m′
+possible-is-refused = accepting.check-possible-never-accepted
