@@ -74,7 +74,7 @@ fn smallest() {
 
 // W is 9,600, and there are 57 facts.
 fn training() {
-    let table = files::training::file();
+    let table = training::file();
     run(&table, MOST, 57);
     run(&table, MOST, 56);
     run(&table, 9599, 57);

@@ -9,8 +9,6 @@ use lib.Dec.{eqb}
 use Rattle.numbers.specs.Refusals.{toldOf}
 use Rattle.numbers.specs.Reading.{Out, got, bad, groupsAt, numberAt, fieldAt, versionAt}
 use Rattle.files.specs.Table.{Table, W, below}
-use Rattle.files.specs.Layout.{numbersOf}
-use Rattle.files.specs.Training.{training}
 use Rattle.files.specs.Rows.{cellAt, rowAt, nextRow, rowsAt, listAt}
 use Rattle.files.specs.Header.{headerAt}
 use Rattle.files.specs.File.{tableAt}
@@ -61,8 +59,3 @@ cases =
 all-cases : all cases ≡ true
 unfolding all cases
 all-cases = refl
-
--- the training file reads as the training table
-pub training-reads : tableAt (numbersOf training) ≡ got training 576
-unfolding reads numbersOf training
-training-reads = refl

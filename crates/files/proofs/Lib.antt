@@ -10,8 +10,7 @@
 --   TableLaws      what is known of a table that was read: it is sound, and where each cell stands
 --   TableStages    the stages of the file are the table
 --   RoomLaws       the room W, at most 2,360,320
---   TrainingRule   the training table follows its rule
---   Cases          the definitions compute, on document 01's reference files and on the training file
+--   Cases          the definitions compute, on document 01's reference files
 --   Unique         two results that a contract allows are equal
 pub mod OrderLaws
 pub mod RowMemory
@@ -24,6 +23,5 @@ pub mod RowKinds
 pub mod TableLaws
 pub mod TableStages
 pub mod RoomLaws
-pub mod TrainingRule
 pub mod Cases
 pub mod Unique

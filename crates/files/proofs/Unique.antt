@@ -16,8 +16,6 @@ use Rattle.files.proofs.header.read_header.Reads as read-header
 use Rattle.files.proofs.header.read_header.Kinds as read-header-kinds
 use Rattle.files.proofs.table.read_table.Reads as read-table
 use Rattle.files.proofs.table.read_table.Kinds as read-table-kinds
-use Rattle.files.proofs.training.file.Reads as file
-use Rattle.files.proofs.training.file.Kinds as file-kinds
 use Rattle.numbers.proofs.Unique.{same, Fixes}
 
 pub room-of-fixes : Fixes room-of-kinds.ps room-of-kinds.r room-of.Post
@@ -25,9 +23,6 @@ room-of-fixes κs a x x′ s s′ = same
 
 pub read-header-fixes : Fixes read-header-kinds.ps read-header-kinds.r read-header.Post
 read-header-fixes κs a x x′ s s′ = same
-
-pub file-fixes : Fixes file-kinds.ps file-kinds.r file.Post
-file-fixes κs a x x′ s s′ = same
 
 -- the answer of the table reader, and every byte of the four memories
 pub table-is-unique : (s : List ℕ) (r r′ : TableRead) (a b c d a′ b′ c′ d′ a″ b″ c″ d″ : List ℕ)

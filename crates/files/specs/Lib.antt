@@ -5,7 +5,6 @@
 --   Header     reading the header
 --   File       reading the whole file, and what the reader answers and stores
 --   Layout     the numbers of a table in file order
---   Training   the training table, by its rule
 --   Stages     what the reader's private functions answer; only their contracts cite it
 pub mod Table
 pub mod Columns
@@ -13,5 +12,4 @@ pub mod Rows
 pub mod Header
 pub mod File
 pub mod Layout
-pub mod Training
 pub mod Stages

@@ -3,4 +3,3 @@ pub mod columns;
 pub mod header;
 pub mod rows;
 pub mod table;
-pub mod training;

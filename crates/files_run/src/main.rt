@@ -8,7 +8,6 @@ use files::header::room_of;
 use files::table::Counts;
 use files::table::Outcome;
 use files::table::read_table;
-use files::training;
 use libc::STDOUT_FILENO;
 use numbers::refusals::Refusal;
 use numbers::refusals::tell;

@@ -12,7 +12,7 @@ use native.Mathlib.Decide.{ℕ-discrete}
 use native.Mathlib.Omega.{arith}
 use lib.ListN.{length}
 use Rattle.files.specs.Table.{Table}
-use Rattle.files.specs.Training.{simple, training}
+use Rattle.training.specs.Training.{simple, training}
 use Rattle.model.specs.Rules.{Fact, G, P, Derives}
 use Rattle.model.specs.Memory.{FactCount}
 use Rattle.model.specs.Verdict.{Verdict}

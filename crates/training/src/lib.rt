@@ -1,7 +1,7 @@
 // The training table of document 01, built in: the program Simple of document 004 with three threads.
 ghost use mathlib.Core.Path.{_≡_};
 ghost use Rattle.files.specs.Layout.{numbersOf};
-ghost use Rattle.files.specs.Training.{training};
+ghost use Rattle.training.specs.Training.{training};
 
 // 576 numbers, all below 128, so that each is one byte of the file. The step rows of a thread at a shared store have a line.
 #[rattlefmt::skip]

@@ -11,9 +11,9 @@ use borrow.Author.Tests.{eqb-true, ltb-true}
 use lib.Dec.{eqb, ltb}
 use lib.ListN.{length, getD}
 use lib.Seq.{ext-getD}
 use Rattle.files.specs.Table.{W}
 use Rattle.files.specs.Layout.{numbersOf}
-use Rattle.files.specs.Training.{training}
+use Rattle.training.specs.Training.{training}
 
 -- ---- the test
 

@@ -1,0 +1,12 @@
+-- The training file reads as the training table, by evaluation.
+-- Assumes nothing.
+use mathlib.Core.Path.{_≡_, refl}
+use Rattle.numbers.specs.Reading.{got}
+use Rattle.files.specs.File.{tableAt}
+use Rattle.files.specs.Layout.{numbersOf}
+use Rattle.files.proofs.Cases.{reads}
+use Rattle.training.specs.Training.{training}
+
+pub training-reads : tableAt (numbersOf training) ≡ got training 576
+unfolding reads numbersOf training
+training-reads = refl
