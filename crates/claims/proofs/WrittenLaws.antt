@@ -1,5 +1,6 @@
 -- What a claim that was written is worth.
 --     written-claim             it is read as the positions of exactly the derivable facts, as many as the answer tells
+--     written-within            it stands within the space, as lending its bytes asks
 --     claim-one-to-one          writing is one to one: claims of the same bytes have the same positions, whichever tables they are of
 --     safe-claim-accepted       where the verdict is safe, a claim check finds the written claim accepted
 --     possible-claim-refused    and where it is possible, by the witness's row, that the claim allows an error by that row
@@ -9,7 +10,7 @@ use mathlib.Core.List.{List, [], _∷_}
 use Prim.Native.Nat.{ℕ, _+_, _≤_}
 use native.Mathlib.Omega.{arith}
 use lib.ListN.{length, take, drop}
-use lib.Seq.{sets, sets-eq, take-at}
+use lib.Seq.{sets, length-sets, sets-eq, take-at, length-take-le}
 use Rattle.numbers.specs.Reading.{got}
 use Rattle.files.specs.Table.{Table, Sound, W}
 use Rattle.files.proofs.RoomLaws.{W-max}
@@ -65,6 +66,12 @@ done-claim {m′ = m′} k =
 pub written-claim : {s : List ℕ} {budget : ℕ} {m d : List ℕ} {count : ℕ} {verdict : Verdict} {bytes : ℕ} {m′ d′ : List ℕ}
     → ClaimWritten s budget m d (Written count verdict bytes) m′ d′ → WrittenClaim s count verdict bytes (take bytes d′)
 written-claim {d = d} (written {bytes} c of l) = rw (sets-first bytes d l, claim-bytes (check-done c) of) (done-claim (check-done c))
+
+pub written-within : {s : List ℕ} {budget : ℕ} {m d : List ℕ} {count : ℕ} {verdict : Verdict} {bytes : ℕ} {m′ d′ : List ℕ}
+    → ClaimWritten s budget m d (Written count verdict bytes) m′ d′ → (bytes ≤ length d′) × (bytes ≡ length (take bytes d′))
+written-within {d = d} (written {bytes} c of l) =
+    let within : length bytes ≤ length (sets d 0 bytes) = omega (arith, length-sets d 0 bytes) in
+    (within, sym (length-take-le _ _ within))
 
 -- ---- one to one
 

@@ -4,7 +4,7 @@ use mathlib.Core.Path.{_≡_, refl}
 use mathlib.Core.List.{[], _∷_, _++_}
 use Rattle.model.specs.Rules.{G, P, Q}
 use Rattle.text.specs.Text.{bytes, digits, decimal, fields, line}
-use Rattle.text.specs.Listing.{factsLine, safeLine, possibleLine, refusedLine, factLine}
+use Rattle.text.specs.Listing.{factsLine, safeLine, possibleLine, refusedLine, factLine, bytesLine, acceptedLine, claimRefusedLine}
 
 -- the recursion table
 recursion : factsLine 5
@@ -31,3 +31,9 @@ empty-input = refl
 largest : factsLine 2360320 ++ factsLine 18446744073709551615 ≡ bytes "facts 2360320\nfacts 18446744073709551615\n"
 unfolding digits decimal fields line
 largest = refl
+
+-- the recursion table's claims: the facts written, accepted; position 23 lacking; a claim of the version alone
+claims : bytesLine 7 ++ acceptedLine 5 ++ claimRefusedLine 10 23 0 ++ claimRefusedLine 1 1 1
+    ≡ bytes "bytes 7\naccepted 5\nrefused 10 23 0\nrefused 1 1 1\n"
+unfolding digits decimal fields line
+claims = refl

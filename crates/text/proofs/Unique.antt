@@ -21,6 +21,12 @@ use Rattle.text.proofs.lines.refused_line.Reads as refused-line
 use Rattle.text.proofs.lines.refused_line.Kinds as refused-line-kinds
 use Rattle.text.proofs.lines.fact_line.Reads as fact-line
 use Rattle.text.proofs.lines.fact_line.Kinds as fact-line-kinds
+use Rattle.text.proofs.lines.bytes_line.Reads as bytes-line
+use Rattle.text.proofs.lines.bytes_line.Kinds as bytes-line-kinds
+use Rattle.text.proofs.lines.accepted_line.Reads as accepted-line
+use Rattle.text.proofs.lines.accepted_line.Kinds as accepted-line-kinds
+use Rattle.text.proofs.lines.claim_refused_line.Reads as claim-refused-line
+use Rattle.text.proofs.lines.claim_refused_line.Kinds as claim-refused-line-kinds
 
 -- ---- the lines
 
@@ -48,6 +54,15 @@ refused-line-fixes κs a x x′ s s′ = written-unique
 
 pub fact-line-fixes : Fixes fact-line-kinds.ps fact-line-kinds.r fact-line.Post (λ κs s. now (s .1 .1 .0))
 fact-line-fixes κs a x x′ s s′ = written-unique
+
+pub bytes-line-fixes : Fixes bytes-line-kinds.ps bytes-line-kinds.r bytes-line.Post (λ κs s. now (s .1 .0))
+bytes-line-fixes κs a x x′ s s′ = written-unique
+
+pub accepted-line-fixes : Fixes accepted-line-kinds.ps accepted-line-kinds.r accepted-line.Post (λ κs s. now (s .1 .0))
+accepted-line-fixes κs a x x′ s s′ = written-unique
+
+pub claim-refused-line-fixes : Fixes claim-refused-line-kinds.ps claim-refused-line-kinds.r claim-refused-line.Post (λ κs s. now (s .1 .1 .1 .0))
+claim-refused-line-fixes κs a x x′ s s′ = written-unique
 
 -- ---- the fact at a position
 

@@ -1,4 +1,4 @@
--- The lines of the listing, to the letter (document 01, "Reference tables and results").
+-- The lines of the listing, to the letter (document 01, "Reference tables and results"), and those of the programs on claims.
 use mathlib.Core.List.{List, [], _∷_}
 use Prim.Native.Nat.{ℕ}
 use Rattle.model.specs.Rules.{Fact, G, P, Q}
@@ -24,3 +24,17 @@ abbrev pub factLine : Fact → List ℕ
 factLine (G t g g′) = line (bytes "G") (t ∷ g ∷ g′ ∷ [])
 factLine (P t g l g′ l′) = line (bytes "P") (t ∷ g ∷ l ∷ g′ ∷ l′ ∷ [])
 factLine (Q t g l f g′ l′) = line (bytes "Q") (t ∷ g ∷ l ∷ f ∷ g′ ∷ l′ ∷ [])
+
+-- ---- the lines of the programs on claims
+
+-- the number of bytes that a written claim takes, as "bytes 7"
+abbrev pub bytesLine : ℕ → List ℕ
+bytesLine count = line (bytes "bytes") (count ∷ [])
+
+-- an accepted claim with its count, as "accepted 5"
+abbrev pub acceptedLine : ℕ → List ℕ
+acceptedLine count = line (bytes "accepted") (count ∷ [])
+
+-- a refusal of the claim check with number, value and origin: "refused 10 23 0"; "refused 4 2 1" is the claim's own
+abbrev pub claimRefusedLine : ℕ → ℕ → ℕ → List ℕ
+claimRefusedLine number value origin = line (bytes "refused") (number ∷ value ∷ origin ∷ [])

@@ -1,10 +1,10 @@
-// The lines of the listing.
+// The lines of the listing, and those of the programs on claims.
 ghost use Prim.Native.Nat.{_+_, _*_, _<_, _≤_, min};
 ghost use mathlib.Core.Path.{_≡_};
 ghost use lib.ListN.{length, take};
 ghost use Rattle.store.specs.Plans.{Planned};
 ghost use Rattle.text.specs.Text.{field, line, Written};
-ghost use Rattle.text.specs.Listing.{factsLine, safeLine, possibleLine, refusedLine, factLine};
+ghost use Rattle.text.specs.Listing.{factsLine, safeLine, possibleLine, refusedLine, factLine, bytesLine, acceptedLine, claimRefusedLine};
 ghost use Rattle.text.specs.Facts.{planFact};
 ghost use Rattle.text.specs.Putting.{Put, fieldRoom};
 use crate::decimal::put_decimal;
@@ -95,4 +95,25 @@ pub fn fact_line(s: Plan, p: usize, out: &mut [u8; ROOM]) -> usize
         FactFields::P { t, g, l, g2, l2 } => put_line(out, b"P", &[t, g, l, g2, l2]),
         FactFields::Q { t, g, l, f, g2, l2 } => put_line(out, b"Q", &[t, g, l, f, g2, l2]),
     }
+}
+
+// The line of the number of bytes that a written claim takes.
+pub fn bytes_line(count: usize, out: &mut [u8; ROOM]) -> usize
+    ensures { λ r. ⌜ Written (bytesLine count) (now (out .entry)) (now (out .exit)) r ⌝ }
+{
+    put_line(out, b"bytes", &[count])
+}
+
+// The line of a claim that is accepted, with the number of facts that it claims.
+pub fn accepted_line(count: usize, out: &mut [u8; ROOM]) -> usize
+    ensures { λ r. ⌜ Written (acceptedLine count) (now (out .entry)) (now (out .exit)) r ⌝ }
+{
+    put_line(out, b"accepted", &[count])
+}
+
+// The line of a claim check's refusal, with its number, its value and its origin.
+pub fn claim_refused_line(number: usize, value: usize, origin: usize, out: &mut [u8; ROOM]) -> usize
+    ensures { λ r. ⌜ Written (claimRefusedLine number value origin) (now (out .entry)) (now (out .exit)) r ⌝ }
+{
+    put_line(out, b"refused", &[number, value, origin])
 }

@@ -1,9 +1,12 @@
-// Prints lines of every kind of the listing, at the borders of their numbers and positions.
+// Prints lines of every kind of the listing and of the programs on claims, at the borders of their numbers and positions.
 ghost use Rattle.store.specs.Plans.{Planned};
 use libc::STDOUT_FILENO;
 use store::plan::Plan;
 use store::plan::plan_of;
 use text::lines::ROOM;
+use text::lines::accepted_line;
+use text::lines::bytes_line;
+use text::lines::claim_refused_line;
 use text::lines::fact_line;
 use text::lines::facts_line;
 use text::lines::possible_line;
@@ -31,6 +34,24 @@ fn possible(row: usize, g: usize, locals: [usize; 4], threads: usize) {
 fn refused(number: usize, value: usize) {
     let mut line = [0u8; ROOM];
     let n = refused_line(number, value, &mut line);
+    io::write_all(STDOUT_FILENO, &line[..n]);
+}
+
+fn bytes(count: usize) {
+    let mut line = [0u8; ROOM];
+    let n = bytes_line(count, &mut line);
+    io::write_all(STDOUT_FILENO, &line[..n]);
+}
+
+fn accepted(count: usize) {
+    let mut line = [0u8; ROOM];
+    let n = accepted_line(count, &mut line);
+    io::write_all(STDOUT_FILENO, &line[..n]);
+}
+
+fn claim_refused(number: usize, value: usize, origin: usize) {
+    let mut line = [0u8; ROOM];
+    let n = claim_refused_line(number, value, origin, &mut line);
     io::write_all(STDOUT_FILENO, &line[..n]);
 }
 
@@ -95,6 +116,18 @@ fn mixed() {
     fact(s, 10440);
 }
 
+// The lines of the programs on claims: the longest claim, the largest, and refusals of the table, of the claim and of its facts.
+fn claims() {
+    bytes(2360325);
+    accepted(0);
+    accepted(2360320);
+    claim_refused(7, 2360320, 0);
+    claim_refused(4, 2, 1);
+    claim_refused(10, 23, 0);
+    let m = 18446744073709551615;
+    claim_refused(m, m, m);
+}
+
 fn main() {
     numbers();
     safe();
@@ -104,4 +137,5 @@ fn main() {
     recursion();
     limits();
     mixed();
+    claims();
 }

@@ -1,8 +1,9 @@
 -- `claims::clearing::clear_first` meets its contract: the first w bytes are lent and cleared, and the others stay as they were.
 -- Assumes nothing.
-use mathlib.Core.Path.{_≡_, sym, _∙_}
+use mathlib.Core.Path.{_≡_, _∙_}
 use borrow.Author.Needs.{needs}
-use lib.ListN.{length, take}
+use native.Mathlib.Omega.{arith}
+use lib.ListN.{length, take, length-take}
 use lib.Seq.{length-take-le}
 use Rattle.claims.proofs.WritingStages.{first-cleared}
 use Rattle.claims.proofs.clearing.clear_first.Statement.{statement}
@@ -19,7 +20,7 @@ slice-relend-prefix-clear : tie.Need-slice-relend-prefix-clear
 slice-relend-prefix-clear c = search needs
 
 slice-aggregate-clear : tie.Need-slice-aggregate-clear
-slice-aggregate-clear c = sym (part-long c)
+slice-aggregate-clear c = simp length-take (omega arith)
 
 clear-requires : tie.Need-clear-requires
 clear-requires c κs = search needs

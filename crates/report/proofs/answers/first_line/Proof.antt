@@ -1,7 +1,8 @@
 -- `report::answers::first_line` meets its contract: the answer is done if its number is 0.
 -- Assumes nothing.
 use borrow.Author.Needs.{needs}
-use Rattle.report.proofs.AnswerLaws.{first-done, first-refused}
+use Rattle.rules.specs.Answers.{replyOf}
+use Rattle.report.proofs.AnswerLaws.{reply-done, reply-refused}
 use Rattle.report.proofs.answers.first_line.Statement.{statement}
 use Rattle.report.proofs.answers.first_line.Tie as tie
 
@@ -17,7 +18,7 @@ facts-line-requires c κs = search needs
 returns : tie.Need-returns
 returns c =
     let told = c .before .before .before .before in
-    first-done (told .before .args .answer) (told .reply-of .ensures) (c .before .before .if1 .taken) (c .facts-line .ensures)
+    reply-done (replyOf (told .before .args .answer)) (told .reply-of .ensures) (c .before .before .if1 .taken) (c .facts-line .ensures)
 
 refused-line-requires : tie.Need-refused-line-requires
 refused-line-requires c κs = search needs
@@ -25,7 +26,7 @@ refused-line-requires c κs = search needs
 returns-2 : tie.Need-returns-2
 returns-2 c =
     let told = c .before .before .before .before in
-    first-refused (told .before .args .answer) (told .reply-of .ensures) (c .before .before .if1 .left) (c .refused-line .ensures)
+    reply-refused (replyOf (told .before .args .answer)) (told .reply-of .ensures) (c .before .before .if1 .left) (c .refused-line .ensures)
 
 pub first-line-spec : {M : Type 1} → statement M
 first-line-spec =

@@ -1,0 +1,13 @@
+-- `claim_check::memory` meets its contract: so many zeros are so long. The law on `replicate` says so without counting them.
+-- Assumes nothing.
+use mathlib.Core.Path.{sym}
+use Prim.Native.Nat.{ℕ}
+use lib.ListN.{length-replicate}
+use Rattle.claim_check.proofs.memory.Statement.{statement}
+use Rattle.claim_check.proofs.memory.Tie as tie
+
+returns : tie.Need-returns
+returns c = sym (length-replicate {0} {A = ℕ} 2360320 0)
+
+pub memory-spec : {M : Type 1} → statement M
+memory-spec = tie.close (tie.spec returns)

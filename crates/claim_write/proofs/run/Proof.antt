@@ -1,0 +1,71 @@
+-- `claim_write::run` is safe and ends: the bytes of a claim that is written stand within the space.
+-- Assumes nothing.
+use borrow.Author.Needs.{needs}
+use Rattle.claims.proofs.WrittenLaws.{written-within}
+use Rattle.claim_write.proofs.run.Statement.{statement}
+use Rattle.claim_write.proofs.run.Tie as tie
+
+memory-requires : tie.Need-memory-requires
+memory-requires c κs = search needs
+
+space-requires : tie.Need-space-requires
+space-requires c κs = search needs
+
+slice-aggregate-write-claim : tie.Need-slice-aggregate-write-claim
+slice-aggregate-write-claim c = search needs
+
+slice-aggregate-write-claim-2 : tie.Need-slice-aggregate-write-claim-2
+slice-aggregate-write-claim-2 c = search needs
+
+write-claim-requires : tie.Need-write-claim-requires
+write-claim-requires c κs = search needs
+
+enum-known-answer : tie.Need-enum-known-answer
+enum-known-answer c = search needs
+
+array-share-prefix-space : tie.Need-array-share-prefix-space
+array-share-prefix-space c =
+    let told = c .before .before .before .before .before .write-claim in
+    written-within (rw (c .before .answer .given .1) at (told .ensures)) .0
+
+slice-aggregate-save : tie.Need-slice-aggregate-save
+slice-aggregate-save c =
+    let told = c .before .before .before .before .before .before .write-claim in
+    written-within (rw (c .before .before .answer .given .1) at (told .ensures)) .1
+
+save-requires : tie.Need-save-requires
+save-requires c κs = search needs
+
+tell-requires : tie.Need-tell-requires
+tell-requires c κs = search needs
+
+tell-requires-2 : tie.Need-tell-requires-2
+tell-requires-2 c κs = search needs
+
+returns : tie.Need-returns
+returns c = search needs
+
+returns-2 : tie.Need-returns-2
+returns-2 c = search needs
+
+returns-3 : tie.Need-returns-3
+returns-3 c = search needs
+
+pub run-spec : {M : Type 1} → statement M
+run-spec =
+    tie.close
+    (tie.spec
+    memory-requires
+    space-requires
+    slice-aggregate-write-claim
+    slice-aggregate-write-claim-2
+    write-claim-requires
+    enum-known-answer
+    array-share-prefix-space
+    slice-aggregate-save
+    save-requires
+    tell-requires
+    tell-requires-2
+    returns
+    returns-2
+    returns-3)
