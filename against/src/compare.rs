@@ -4,13 +4,16 @@
 use crate::answer::{Answer, Calls, Verdict};
 use crate::reference::{self, read_table, Table};
 use crate::tables::{
-    bytes_of, claim_numbers, damaged_claim, damaged_table, grown_claim, near, sound, Model, Random,
-    NEAR,
+    bytes_of, claim_numbers, damaged_claim, damaged_table, grown_claim, mutex, near, recursion,
+    smallest, sound, training, Model, Random, NEAR,
 };
 
 /// Bytes on each side of what is lent, more in front so that the lent part is not aligned.
 const FRONT: usize = 19;
 const BACK: usize = 16;
+
+/// How far around what a table takes every budget and every length is tried.
+const AROUND: usize = 24;
 
 /// How a comparison ended.
 pub struct Tally {
@@ -50,7 +53,8 @@ struct Outcome {
     space: Vec<u8>,
 }
 
-/// Compares two implementations on `count` calls drawn from the seed.
+/// Compares two implementations on all calls at the edges of the document's own tables, then on
+/// `count` calls drawn from the seed.
 pub fn compare(one: Calls, two: Calls, seed: u64, count: usize) -> Tally {
     let mut random = Random::new(seed);
     let mut tally = Tally {
@@ -60,6 +64,12 @@ pub fn compare(one: Calls, two: Calls, seed: u64, count: usize) -> Tally {
         possible: 0,
         notes: Vec::new(),
     };
+    for model in [smallest(), recursion(), training(), mutex()] {
+        for case in Base::new(model).edges() {
+            tally.add(one, two, &case);
+        }
+    }
+    let count = tally.compared + count;
     for turn in 0.. {
         // Of 300 tables one is near the limits and two have any size up to them.
         let (model, calls) = match (turn % 300, random.below(8)) {
@@ -179,6 +189,44 @@ impl Base {
             positions,
             claim,
         }
+    }
+
+    /// Every length of memory, every budget and every space around what the table takes, and the
+    /// table and its claim cut at every byte.
+    fn edges(&self) -> Vec<Case> {
+        let [memory, budget, space] = [self.facts.len(), self.positions.len(), self.claim.len()];
+        let around = |number: usize| number.saturating_sub(AROUND)..=number + AROUND;
+        let claim = &self.claim;
+        let mut cases = Vec::new();
+        let mut add = |file: &[u8], memory, call| {
+            cases.push(Case {
+                table: file.to_vec(),
+                memory,
+                call,
+                dirt: cases.len() as u64,
+            })
+        };
+        for memory in around(memory) {
+            let claim = claim.clone();
+            add(&self.file, memory, Call::Check { budget });
+            add(&self.file, memory, Call::WriteClaim { budget, space });
+            add(&self.file, memory, Call::CheckClaim { claim });
+        }
+        for budget in around(budget) {
+            add(&self.file, memory, Call::Check { budget });
+            add(&self.file, memory, Call::WriteClaim { budget, space });
+        }
+        for space in around(space) {
+            add(&self.file, memory, Call::WriteClaim { budget, space });
+        }
+        for cut in 0..self.file.len() {
+            add(&self.file[..cut], memory, Call::Check { budget });
+        }
+        for cut in 0..claim.len() {
+            let claim = claim[..cut].to_vec();
+            add(&self.file, memory, Call::CheckClaim { claim });
+        }
+        cases
     }
 
     /// A call with this table or a damaged one.

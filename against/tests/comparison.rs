@@ -2,15 +2,21 @@
 
 use against::answer::{Answer, Calls, Verdict};
 use against::compare::compare;
-use against::{reference, second};
+use against::{reference, second, OTHER};
 
 const GOOD: Calls = reference::CALLS;
 
 #[test]
 fn they_agree() {
-    let tally = compare(GOOD, second::CALLS, 7, 3000);
+    agrees(second::CALLS);
+    agrees(OTHER);
+}
+
+fn agrees(other: Calls) {
+    let tally = compare(GOOD, other, 7, 3000);
     assert_eq!(tally.notes, Vec::<String>::new());
-    assert_eq!((tally.compared, tally.differ), (3000, 0));
+    assert_eq!(tally.differ, 0);
+    assert!(tally.compared > 3000);
     assert!(tally
         .answers
         .iter()

@@ -1,10 +1,14 @@
-//! Every result that document 01 names, of both implementations.
+//! Every result that document 01 names, of each implementation.
 
 use against::answer::{Answer, Calls, Verdict, Witness};
 use against::tables::{self, bytes_of, claim_numbers, Model, ERROR, MOST, NEAR, POP, PUSH, STEP};
-use against::{reference, second};
+use against::{reference, second, OTHER};
 
-const BOTH: [Calls; 2] = [reference::CALLS, second::CALLS];
+const ALL: &[Calls] = if cfg!(feature = "proved") {
+    &[reference::CALLS, second::CALLS, OTHER]
+} else {
+    &[reference::CALLS, second::CALLS]
+};
 
 const RECURSION: [u8; 29] = [
     0x01, 0x01, 0x02, 0x02, 0x01, 0x00, 0x00, 0x00, 0x01, 0x00, 0x00, 0x00, 0x01, 0x01, 0x01, 0x00,
@@ -38,9 +42,9 @@ fn check(calls: Calls, table: &[u8], memory: usize, budget: usize) -> (Answer, V
     (answer, lent)
 }
 
-/// A refused check: number and value, by both.
+/// A refused check: number and value, by each.
 fn refused(table: &[u8], number: u8, value: usize) {
-    for calls in BOTH {
+    for &calls in ALL {
         let (answer, _) = check(calls, table, 65_536, 65_536);
         assert_eq!(
             plain(&answer),
@@ -72,7 +76,7 @@ fn reference_tables() -> Vec<Model> {
 fn recursion() {
     assert_eq!(tables::recursion().bytes(), RECURSION);
     assert_eq!(tables::recursion().total(), 36);
-    for calls in BOTH {
+    for &calls in ALL {
         let (answer, memory) = check(calls, &RECURSION, 40, 5);
         assert_eq!(plain(&answer), (0, 0, 5));
         assert_eq!(answer.verdict, Some(Verdict::Safe));
@@ -100,7 +104,7 @@ fn recursion_claims() {
         (&[1, 7, 1, 3, 2, 1, 13, 2, 1], (11, 0, 1), &[]),
         (&[1, 0], (9, 0, 0), &[]),
     ];
-    for calls in BOTH {
+    for &calls in ALL {
         for (claim, expected, held) in claims {
             let mut memory = [DIRT; 40];
             let answer = (calls.check_claim)(&RECURSION, claim, &mut memory);
@@ -129,7 +133,7 @@ fn claims_refused_for_their_layout() {
     cases.push((vec![1, 2, 4, 0x80, 0x80, 0x80, 0x80], (2, 1, 3)));
     cases.push((vec![1, 2, 4, 0x80, 0x80, 0x80], (1, 1, 6)));
     cases.push(([&own[..], &[0]].concat(), (6, 1, 7)));
-    for calls in BOTH {
+    for &calls in ALL {
         for (claim, expected) in &cases {
             let mut memory = [DIRT; 40];
             let answer = (calls.check_claim)(&RECURSION, claim, &mut memory);
@@ -150,7 +154,7 @@ fn claims_refused_for_their_layout() {
 fn claims_written() {
     for model in reference_tables() {
         let (file, total) = (model.bytes(), model.total());
-        for calls in BOTH {
+        for &calls in ALL {
             let (checked, relations) = check(calls, &file, total, total);
             let expected = bytes_of(&claim_numbers(&ones(&relations)));
             let write = |length: usize| {
@@ -200,7 +204,7 @@ fn claims_written() {
 
 #[test]
 fn claim_of_all_positions() {
-    for calls in BOTH {
+    for &calls in ALL {
         let all: Vec<usize> = (0..36).collect();
         let mut memory = [DIRT; 36];
         let claim = bytes_of(&claim_numbers(&all));
@@ -216,7 +220,7 @@ fn claim_of_all_positions() {
 fn smallest() {
     assert_eq!(tables::smallest().bytes(), SMALLEST);
     assert_eq!(tables::smallest().total(), 2);
-    for calls in BOTH {
+    for &calls in ALL {
         let (answer, memory) = check(calls, &SMALLEST, 3, 1);
         assert_eq!(plain(&answer), (0, 0, 1));
         assert_eq!(answer.verdict, Some(Verdict::Safe));
@@ -244,7 +248,7 @@ fn training() {
     assert!(model.numbers().iter().all(|&number| number < 128));
     assert_eq!(model.lists.each_ref().map(Vec::len), [90, 0, 0, 28]);
     assert_eq!(model.total(), 9600);
-    for calls in BOTH {
+    for &calls in ALL {
         let (answer, memory) = check(calls, &model.bytes(), 9600, 57);
         assert_eq!(plain(&answer), (0, 0, 57));
         assert_eq!(answer.verdict, Some(Verdict::Safe));
@@ -256,7 +260,7 @@ fn training() {
 #[test]
 fn mutex() {
     let file = tables::mutex().bytes();
-    for calls in BOTH {
+    for &calls in ALL {
         let (answer, _) = check(calls, &file, tables::mutex().total(), 65_536);
         assert_eq!(answer.verdict, possible(0, 0, &[0, 6]));
     }
@@ -268,7 +272,7 @@ fn mutex() {
 fn budgets_and_memory() {
     for model in reference_tables() {
         let (file, total) = (model.bytes(), model.total());
-        for calls in BOTH {
+        for &calls in ALL {
             let count = check(calls, &file, total, total).0.value;
             for memory in [total, total + 5] {
                 for budget in [0, count - 1] {
@@ -372,11 +376,17 @@ fn near_the_limits() {
     let safe = [3, 5, 8, 9];
     for (which, count) in (1..).zip(facts) {
         let file = tables::near(which).expect("there are ten").bytes();
-        let results = BOTH.map(|calls| check(calls, &file, 2_360_320, count));
+        let results: Vec<_> = ALL
+            .iter()
+            .map(|&calls| check(calls, &file, 2_360_320, count))
+            .collect();
         let answer = &results[0].0;
         assert_eq!(plain(answer), (0, 0, count), "near{which}");
         assert_eq!(answer.verdict == Some(Verdict::Safe), safe.contains(&which));
-        assert!(results[0] == results[1], "near{which}");
+        assert!(
+            results.iter().all(|result| *result == results[0]),
+            "near{which}"
+        );
         if which == 10 {
             assert_eq!(answer.verdict, possible(64, 15, &[15, 15, 15, 14]));
         }
@@ -385,7 +395,7 @@ fn near_the_limits() {
 
 #[test]
 fn slips_to_guard_against() {
-    for calls in BOTH {
+    for &calls in ALL {
         // A step that moves nothing shared still gives G(t,g,g).
         let mut model = Model::new([1, 2, 0], 0, 0, &[0]);
         model.add(STEP, [0, 0, 0, 0, 1]);

@@ -1,0 +1,65 @@
+-- Each answer as eleven numbers (document 01, "What comes back"): number, origin, value; the verdict with its witness, row, g and the local stores of
+-- threads 0 to 3; and the number of bytes written. What an answer does not have is 0.
+use mathlib.Core.List.{List, [], _∷_}
+use Prim.Native.Nat.{ℕ}
+use Rattle.verdict.specs.declared.search.Verdict.{Verdict}
+use Rattle.verdict.specs.declared.search.Verdict.the-variants.{Safe, Possible}
+use Rattle.rules.specs.declared.answer.Answer.{Answer}
+use Rattle.rules.specs.declared.answer.Answer.the-variants as check
+use Rattle.rules.specs.declared.answer.Reply.{Reply}
+use Rattle.rules.specs.Answers.{replyOf}
+use Rattle.claims.specs.declared.answer.ClaimAnswer.{ClaimAnswer}
+use Rattle.claims.specs.declared.write_answer.WriteAnswer.{WriteAnswer}
+use Rattle.claims.specs.declared.write_answer.WriteAnswer.the-variants as write
+use Rattle.claims.specs.Answers as claim
+use Rattle.claims.specs.WriteAnswers.{writeReplyOf}
+use Rattle.truppidane.specs.declared.told.VerdictNumbers.{VerdictNumbers}
+
+-- the numbers in their order
+abbrev pub line : Reply → VerdictNumbers → ℕ → List ℕ
+line reply judged bytes =
+    reply .number ∷ reply .origin ∷ reply .value
+    ∷ judged .verdict ∷ judged .row ∷ judged .g ∷ judged .l0 ∷ judged .l1 ∷ judged .l2 ∷ judged .l3
+    ∷ bytes ∷ []
+
+-- ---- the verdict: 0 for none, 1 for "safe", 2 for "possible"
+
+abbrev pub noVerdict : VerdictNumbers
+noVerdict = record { verdict = 0; row = 0; g = 0; l0 = 0; l1 = 0; l2 = 0; l3 = 0 }
+
+abbrev pub ofVerdict : Verdict → VerdictNumbers
+ofVerdict Safe = record { verdict = 1; row = 0; g = 0; l0 = 0; l1 = 0; l2 = 0; l3 = 0 }
+ofVerdict (Possible row g l0 l1 l2 l3) = record { verdict = 2; row = row; g = g; l0 = l0; l1 = l1; l2 = l2; l3 = l3 }
+
+-- "A finished check or claim writing also gives the verdict"
+abbrev pub checkVerdict : Answer → VerdictNumbers
+checkVerdict (check.Done count verdict) = ofVerdict verdict
+checkVerdict (check.Refused refusal) = noVerdict
+checkVerdict (check.Short room) = noVerdict
+checkVerdict (check.Over budget) = noVerdict
+
+abbrev pub writeVerdict : WriteAnswer → VerdictNumbers
+writeVerdict (write.Written count verdict bytes) = ofVerdict verdict
+writeVerdict (write.Refused refusal) = noVerdict
+writeVerdict (write.Short room) = noVerdict
+writeVerdict (write.Over budget) = noVerdict
+writeVerdict (write.NoSpace needed) = noVerdict
+
+-- "On 0 every call that writes a file, claim or text also gives the number of bytes written."
+abbrev pub writeBytes : WriteAnswer → ℕ
+writeBytes (write.Written count verdict bytes) = bytes
+writeBytes (write.Refused refusal) = 0
+writeBytes (write.Short room) = 0
+writeBytes (write.Over budget) = 0
+writeBytes (write.NoSpace needed) = 0
+
+-- ---- the answers
+
+abbrev pub checkNumbers : Answer → List ℕ
+checkNumbers answer = line (replyOf answer) (checkVerdict answer) 0
+
+abbrev pub writeNumbers : WriteAnswer → List ℕ
+writeNumbers answer = line (writeReplyOf answer) (writeVerdict answer) (writeBytes answer)
+
+abbrev pub claimNumbers : ClaimAnswer → List ℕ
+claimNumbers answer = line (claim.replyOf answer) noVerdict 0
