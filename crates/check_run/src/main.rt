@@ -1,5 +1,6 @@
 // Runs the check on document 01's reference tables: in memory of 0xAA, with budgets at the count and one below it, and with memory one byte short.
-// Then counts the bytes that a check is to leave alone and did not, and runs it on tables at the limits of the sizes and just past them.
+// Then counts the bytes that a check is to leave alone and did not, and the facts of each kind in the training table, and runs it on tables at the
+// limits of the sizes and just past them.
 use libc::STDOUT_FILENO;
 use report::answers::first_line;
 use report::answers::verdict_line;
@@ -136,6 +137,51 @@ fn left_alone() {
     watch(&MUTEX, MOST, 79, 1600);
 }
 
+// ---- the kinds of facts
+
+// How many marks there are in a part of a memory.
+fn marks(part: &[u8]) -> usize {
+    let mut n = 0;
+    let mut i = 0;
+    while i < part.len() {
+        if part[i] == 1 {
+            n += 1;
+        }
+        i += 1;
+    }
+    n
+}
+
+// How many there are before a position, and from it on.
+fn marks_before(mem: &[u8], p: usize) -> usize {
+    if p <= mem.len() {
+        return marks(&mem[..p]);
+    }
+    0
+}
+
+fn marks_from(mem: &[u8], p: usize) -> usize {
+    if p <= mem.len() {
+        return marks(&mem[p..]);
+    }
+    0
+}
+
+fn tell_marks(letter: &[u8], n: usize) {
+    io::write_all(STDOUT_FILENO, letter);
+    io::print_decimal(STDOUT_FILENO, n as u64);
+    io::write_all(STDOUT_FILENO, b"\n");
+}
+
+// Of the training table's facts, the G facts stand at the first 3 * 8 * 8 positions, and the P facts at the others.
+fn kinds() {
+    let mut mem = [FILL; MOST];
+    let table = training::file();
+    check_in(&table, &mut mem, MOST, 57);
+    tell_marks(b"G ", marks_before(&mem, 192));
+    tell_marks(b"P ", marks_from(&mem, 192));
+}
+
 // ---- the limits of the sizes
 
 // A table of each size at its limit, the other sizes as small as they may be, and the same with one more.
@@ -171,5 +217,6 @@ fn main() {
     training();
     mutex();
     left_alone();
+    kinds();
     limits();
 }
