@@ -1,8 +1,9 @@
 -- `rules::check::run_in` meets its contract: the first w bytes are lent, and the others stay as they were.
 -- Assumes nothing.
 use mathlib.Core.Path.{_≡_, sym, subst, _∙_}
+use native.Mathlib.Omega.{arith}
 use borrow.Author.Needs.{needs}
-use lib.ListN.{length, take, drop}
+use lib.ListN.{length, take, drop, length-take}
 use lib.Seq.{length-take-le, take-at, drop-at}
 use Rattle.engine.specs.Answers.{Ran}
 use Rattle.rules.proofs.check.run_in.Statement.{statement}
@@ -19,7 +20,7 @@ slice-relend-prefix-run : tie.Need-slice-relend-prefix-run
 slice-relend-prefix-run c = search needs
 
 slice-aggregate-run : tie.Need-slice-aggregate-run
-slice-aggregate-run c = sym (part-long c)
+slice-aggregate-run c = simp length-take (omega arith)
 
 run-requires : tie.Need-run-requires
 run-requires c κs = (start c .pre .0, start c .pre .1, part-long c)
