@@ -3,7 +3,7 @@
 ghost use mathlib.Core.Path.{_≡_};
 ghost use lib.ListN.{length};
 use claim_report::checked::checked_line;
-use claims::check::check_claim;
+use claim_checking::check::check_claim;
 use libc::STDERR_FILENO;
 use libc::STDOUT_FILENO;
 use text::lines::ROOM;

@@ -4,11 +4,11 @@ use mathlib.Core.List.{List, []}
 use Prim.Native.Nat.{ℕ, zero, suc}
 use Rattle.text.specs.Listing.{bytesLine, acceptedLine, claimRefusedLine}
 use Rattle.report.specs.Answers.{lineOfReply, lineOfVerdict}
-use Rattle.claims.specs.declared.write_answer.WriteAnswer.{WriteAnswer}
-use Rattle.claims.specs.declared.write_answer.WriteAnswer.the-variants.{Written, Refused, Short, Over, NoSpace}
-use Rattle.claims.specs.WriteAnswers.{writeReplyOf}
-use Rattle.claims.specs.declared.answer.ClaimAnswer.{ClaimAnswer}
-use Rattle.claims.specs.Answers.{replyOf}
+use Rattle.claim_writing.specs.declared.answer.WriteAnswer.{WriteAnswer}
+use Rattle.claim_writing.specs.declared.answer.WriteAnswer.the-variants.{Written, Refused, Short, Over, NoSpace}
+use Rattle.claim_writing.specs.Answers.{writeReplyOf}
+use Rattle.claim_checking.specs.declared.answer.ClaimAnswer.{ClaimAnswer}
+use Rattle.claim_checking.specs.Answers.{replyOf}
 
 -- ---- claim writing
 

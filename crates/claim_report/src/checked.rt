@@ -1,8 +1,8 @@
 // The line of an answer of the claim check.
 ghost use Rattle.text.specs.Text.{Written};
 ghost use Rattle.claim_report.specs.ClaimLines.{checkedLine};
-use claims::answer::ClaimAnswer;
-use claims::answer::reply_of;
+use claim_checking::answer::ClaimAnswer;
+use claim_checking::answer::reply_of;
 use text::lines::ROOM;
 use text::lines::accepted_line;
 use text::lines::claim_refused_line;

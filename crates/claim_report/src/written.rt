@@ -2,8 +2,8 @@
 ghost use Rattle.text.specs.Text.{Written};
 ghost use Rattle.report.specs.Answers.{threadsOf};
 ghost use Rattle.claim_report.specs.ClaimLines.{firstLine, verdictLine, bytesLineOf};
-use claims::write_answer::WriteAnswer;
-use claims::write_answer::write_reply_of;
+use claim_writing::answer::WriteAnswer;
+use claim_writing::answer::write_reply_of;
 use rules::answer::Answer;
 use text::lines::ROOM;
 use text::lines::facts_line;

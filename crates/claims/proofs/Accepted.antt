@@ -30,11 +30,11 @@ use Rattle.rules.specs.Checking.{Checked, read, done}
 use Rattle.rules.proofs.Unique.{was-read}
 use Rattle.claim_files.specs.ClaimFile.{claimAt}
 use Rattle.claim_files.proofs.ClaimIsModel.{claim-counts}
-use Rattle.claims.specs.declared.answer.ClaimAnswer.{ClaimAnswer}
-use Rattle.claims.specs.declared.answer.ClaimAnswer.the-variants.{Accepted}
-use Rattle.claims.specs.ClaimChecking as claims
-use Rattle.claims.specs.ClaimChecking.{Accepts, OfPositions, OfTable, claim-read, ClaimChecked, table-read}
-use Rattle.claims.proofs.ClaimCases.{table-was-read, claim-was-read, answer-by-finding}
+use Rattle.claim_checking.specs.declared.answer.ClaimAnswer.{ClaimAnswer}
+use Rattle.claim_checking.specs.declared.answer.ClaimAnswer.the-variants.{Accepted}
+use Rattle.claim_checking.specs.ClaimChecking as claims
+use Rattle.claim_checking.specs.ClaimChecking.{Accepts, OfPositions, OfTable, claim-read, ClaimChecked, table-read}
+use Rattle.claim_checking.proofs.ClaimCases.{table-was-read, claim-was-read, answer-by-finding}
 
 -- ---- what was read
 

@@ -31,8 +31,8 @@ use Rattle.model.proofs.Decide.Claims.{finding?}
 use Rattle.rules.specs.declared.answer.Reply.{Reply}
 use Rattle.claim_files.specs.ClaimFile.{claimAt}
 use Rattle.claim_files.proofs.Cases.{claims}
-use Rattle.claims.specs.Answers.{plain, told, replyOf}
-use Rattle.claims.proofs.ClaimCases.{answerOf}
+use Rattle.claim_checking.specs.Answers.{plain, told, replyOf}
+use Rattle.claim_checking.proofs.ClaimCases.{answerOf}
 
 -- ---- what a case says
 

@@ -11,18 +11,19 @@ use Rattle.numbers.specs.Refusals.{toldOf}
 use Rattle.numbers.specs.Reading.{got}
 use Rattle.files.specs.Table.{Table, W}
 use Rattle.files.specs.File.{tableAt}
+use Rattle.store.specs.Marking.{Cleared}
 use Rattle.rules.specs.declared.answer.Answer.{Answer}
 use Rattle.rules.specs.Answers.{replyOf}
 use Rattle.rules.specs.Checking as check
-use Rattle.rules.specs.Checking.{Cleared, Checked}
-use Rattle.claims.specs.declared.answer.ClaimAnswer.{ClaimAnswer}
-use Rattle.claims.specs.declared.write_answer.WriteAnswer.{WriteAnswer}
-use Rattle.claims.specs.Answers as claim
-use Rattle.claims.specs.ClaimChecking as claims
-use Rattle.claims.specs.ClaimChecking.{ClaimChecked}
-use Rattle.claims.specs.WriteAnswers.{writeReplyOf}
-use Rattle.claims.specs.ClaimWriting as writing
-use Rattle.claims.specs.ClaimWriting.{ClaimWritten}
+use Rattle.rules.specs.Checking.{Checked}
+use Rattle.claim_checking.specs.declared.answer.ClaimAnswer.{ClaimAnswer}
+use Rattle.claim_writing.specs.declared.answer.WriteAnswer.{WriteAnswer}
+use Rattle.claim_checking.specs.Answers as claim
+use Rattle.claim_checking.specs.ClaimChecking as claims
+use Rattle.claim_checking.specs.ClaimChecking.{ClaimChecked}
+use Rattle.claim_writing.specs.Answers.{writeReplyOf}
+use Rattle.claim_writing.specs.ClaimWriting as writing
+use Rattle.claim_writing.specs.ClaimWriting.{ClaimWritten}
 
 -- the first W bytes are cleared, for the table that the file holds, and the others are as they were
 pub record Clears (s m m′ : List ℕ) : Type 0 where

@@ -1,7 +1,7 @@
 -- What we owe: the three demands of document 00, of the calls' own contracts. Open this file first.
 --     Checked       what the check promises (rules/specs/Checking.antt)
---     ClaimChecked  what the claim check promises (specs/ClaimChecking.antt)
---     ClaimWritten  what claim writing promises (specs/ClaimWriting.antt)
+--     ClaimChecked  what the claim check promises (claim_checking/specs/ClaimChecking.antt)
+--     ClaimWritten  what claim writing promises (claim_writing/specs/ClaimWriting.antt)
 -- Each of the three functions is proved to end and to meet its contract on every input, with no `requires`. Here s is a table's file and c a
 -- claim's; m is the working memory before a call and m′ after it; d is the space for a claim, and d′ the space after the call.
 -- Assumes nothing.
@@ -23,21 +23,21 @@ use Rattle.rules.specs.Answers.{replyOf}
 use Rattle.rules.specs.Checking.{Checked}
 use Rattle.rules.proofs.Unique.{checked-same, checked-answer}
 use Rattle.claim_files.specs.ClaimFile.{claimAt}
-use Rattle.claims.specs.declared.answer.ClaimAnswer.{ClaimAnswer}
-use Rattle.claims.specs.declared.answer.ClaimAnswer.the-variants.{Accepted}
-use Rattle.claims.specs.declared.write_answer.WriteAnswer.{WriteAnswer}
-use Rattle.claims.specs.declared.write_answer.WriteAnswer.the-variants.{Written}
-use Rattle.claims.specs.Answers as claim
-use Rattle.claims.specs.ClaimChecking.{OfPositions, ClaimChecked}
-use Rattle.claims.specs.WriteAnswers.{writeReplyOf}
-use Rattle.claims.specs.ClaimWriting.{ClaimOf, ClaimWritten}
+use Rattle.claim_checking.specs.declared.answer.ClaimAnswer.{ClaimAnswer}
+use Rattle.claim_checking.specs.declared.answer.ClaimAnswer.the-variants.{Accepted}
+use Rattle.claim_writing.specs.declared.answer.WriteAnswer.{WriteAnswer}
+use Rattle.claim_writing.specs.declared.answer.WriteAnswer.the-variants.{Written}
+use Rattle.claim_checking.specs.Answers as claim
+use Rattle.claim_checking.specs.ClaimChecking.{OfPositions, ClaimChecked}
+use Rattle.claim_writing.specs.Answers.{writeReplyOf}
+use Rattle.claim_writing.specs.ClaimWriting.{ClaimOf, ClaimWritten}
 use Rattle.claims.proofs.Changes.{Changes, check-changes, claim-changes, write-changes}
-use Rattle.claims.proofs.ClaimCases.{table-was-read, claim-was-read, answer-by-finding}
+use Rattle.claim_checking.proofs.ClaimCases.{table-was-read, claim-was-read, answer-by-finding}
 use Rattle.claims.proofs.Accepted as accepting
-use Rattle.claims.proofs.PositionsOfFacts.{CheckDone, check-done}
-use Rattle.claims.proofs.WrittenLaws.{WrittenClaim, written-claim, claim-one-to-one, safe-claim-accepted}
-use Rattle.claims.proofs.Unique.{claim-checked-same, claim-answer-same}
-use Rattle.claims.proofs.WriteUnique.{claim-written-same, claim-written-answer}
+use Rattle.claim_writing.proofs.PositionsOfFacts.{CheckDone, check-done}
+use Rattle.claim_writing.proofs.WrittenLaws.{WrittenClaim, written-claim, claim-one-to-one, safe-claim-accepted}
+use Rattle.claim_checking.proofs.Unique.{claim-checked-same, claim-answer-same}
+use Rattle.claim_writing.proofs.Unique.{claim-written-same, claim-written-answer}
 
 -- ---- Demand 1: an answer, always
 

@@ -4,9 +4,9 @@ use claim_report::checked::checked_line;
 use claim_report::written::bytes_line;
 use claim_report::written::first_line;
 use claim_report::written::verdict_line;
-use claims::check::check_claim;
-use claims::write::write_claim;
-use claims::write_answer::WriteAnswer;
+use claim_checking::check::check_claim;
+use claim_writing::write::write_claim;
+use claim_writing::answer::WriteAnswer;
 use libc::STDOUT_FILENO;
 use text::lines::ROOM;
 

@@ -1,5 +1,4 @@
 -- From the first W bytes to the whole memory: what the engine leaves in the part that is lent to it, with the verdict, is what the check answers.
---     clear-zeros                                    a cleared memory is zeros
 --     over-here, done-here                           a cleared part; a part that holds the least relations, with the verdict
 --     answer-short, answer-over, answer-done         the answer, by the plan and by what the engine answers
 -- Assumes nothing.
@@ -7,14 +6,15 @@ use mathlib.Core.Path.{_≡_, refl, sym, ap, _∙_}
 use mathlib.Core.List.{List}
 use Prim.Native.Nat.{ℕ, _≤_, _<_}
 use native.Mathlib.Omega.{arith}
-use lib.ListN.{length, take, drop, replicate, length-replicate, getD-replicate}
-use lib.Seq.{length-take-le, getD-take, ext-getD}
+use lib.ListN.{length, take, drop, replicate}
+use lib.Seq.{length-take-le, getD-take}
 use Rattle.files.specs.Table.{Table, Sound, W}
 use Rattle.model.specs.Rules.{Fact}
 use Rattle.model.specs.Memory.{Holds, Relations, FactCount}
 use Rattle.store.specs.Marking.{Clear}
 use Rattle.store.specs.declared.plan.Plan.{Plan}
 use Rattle.store.specs.Plans.{planOf}
+use Rattle.store.proofs.MarkLaws.{clear-zeros}
 use Rattle.store.proofs.PlanIsModel.{w-is}
 use Rattle.engine.specs.declared.run.Answer.{Answer}
 use Rattle.engine.specs.declared.run.Answer.the-variants as Ends
@@ -24,11 +24,6 @@ use Rattle.verdict.specs.Judged.{Judged}
 use Rattle.verdict.proofs.Answers.{judged-least}
 use Rattle.rules.specs.declared.answer.Answer.the-variants.{Done, Short, Over}
 use Rattle.rules.specs.Checking.{OfTable, short, over, done}
-
--- a cleared memory is zeros
-pub clear-zeros : (m : List ℕ) → Clear m → m ≡ replicate (length m) 0
-clear-zeros m c =
-    ext-getD 0 m (replicate (length m) 0) (sym (length-replicate (length m) 0)) λ p h. c p h ∙ sym (getD-replicate (length m) p 0 0 h)
 
 module _ (T : Table) (budget : ℕ) (m m′ : List ℕ) (room : W T ≤ length m) (long : length m′ ≡ length m) (rest : drop (W T) m′ ≡ drop (W T) m) where
   pub over-here : Clear (take (W T) m′) → Exceeds T budget → OfTable T budget m (Over budget) m′

@@ -1,11 +1,11 @@
 -- Two results of the check that its contract allows, for one file, budget and memory, are equal: the answer with its verdict and witness, and
 -- every byte of the memory. So are two numbers, origins and values of one answer.
 -- Assumes nothing.
-use mathlib.Core.Path.{_≡_, refl, sym, ap, ap₂, _∙_}
-use mathlib.Core.List.{List, _++_}
+use mathlib.Core.Path.{_≡_, refl, sym, ap, _∙_}
+use mathlib.Core.List.{List}
 use Prim.Native.Nat.{ℕ, _≤_, _<_}
 use native.Mathlib.Omega.{arith}
-use lib.ListN.{length, take, drop, take-append-drop}
+use lib.ListN.{length, take, drop}
 use contract.Lifetimes.{Lfts}
 use denote.Ref.{now}
 use denote.Triple.Clauses.{AtExit}
@@ -18,6 +18,7 @@ use Rattle.files.specs.Table.{Table, Sound, W}
 use Rattle.files.specs.File.{tableAt}
 use Rattle.files.proofs.TableLaws.{table-sound}
 use Rattle.model.proofs.Unique.{holds-same, fact-count-same}
+use Rattle.store.proofs.Unique.{parts-same}
 use Rattle.engine.proofs.Determined.{exceeds-count}
 use Rattle.verdict.proofs.Answers.{answers-same}
 use Rattle.rules.specs.declared.answer.Answer.{Answer}
@@ -26,12 +27,7 @@ use Rattle.rules.proofs.answer.reply_of.Reads as reply-of
 use Rattle.rules.proofs.answer.reply_of.Kinds as reply-of-kinds
 use Rattle.rules.proofs.check.check.Reads as check
 use Rattle.rules.proofs.check.check.Kinds as check-kinds
-use Rattle.rules.specs.Checking.{Cleared, Finished, OfTable, short, over, done, Checked, refused, read}
-
--- ---- a memory by its two parts
-
-pub parts-same : (w : ℕ) {m m′ : List ℕ} → take w m ≡ take w m′ → drop w m ≡ drop w m′ → m ≡ m′
-parts-same w {m} {m′} e q = sym (take-append-drop w m) ∙ ap₂ (λ (x y : List ℕ). x ++ y) e q ∙ take-append-drop w m′
+use Rattle.rules.specs.Checking.{OfTable, short, over, done, Checked, refused, read}
 
 -- the two results
 abbrev Same : Answer → Answer → List ℕ → List ℕ → Type 0

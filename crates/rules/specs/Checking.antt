@@ -2,23 +2,19 @@
 use mathlib.Core.Path.{_≡_}
 use mathlib.Core.List.{List}
 use Prim.Native.Nat.{ℕ, _≤_, _<_}
-use lib.ListN.{length, take, drop, replicate}
+use lib.ListN.{length, drop}
 use Rattle.numbers.specs.declared.refusals.Refusal.{Refusal}
 use Rattle.numbers.specs.Reading.{got, bad}
 use Rattle.files.specs.Table.{Table, W}
 use Rattle.files.specs.File.{tableAt}
 use Rattle.model.specs.Rules.{Derives}
 use Rattle.model.specs.Memory.{Relations, FactCount}
+use Rattle.store.specs.Marking.{Cleared}
 use Rattle.engine.specs.Answers.{Exceeds}
 use Rattle.verdict.specs.declared.search.Verdict.{Verdict}
 use Rattle.verdict.specs.Judged.{Answers}
 use Rattle.rules.specs.declared.answer.Answer.{Answer}
 use Rattle.rules.specs.declared.answer.Answer.the-variants.{Done, Refused, Short, Over}
-
--- the first w bytes are 0, and the others as they were
-pub record Cleared (w : ℕ) (m m′ : List ℕ) : Type 0 where
-  pub zeros : take w m′ ≡ replicate w 0
-  pub rest : drop w m′ ≡ drop w m
 
 -- The check is done: the count is the number of facts of the least relations, and within the budget. The first W bytes hold these relations,
 -- and the others are as they were. The verdict is theirs, with its smallest witness.

@@ -3,20 +3,20 @@
 -- Assumes nothing.
 use mathlib.Core.Path.{_≡_, refl, sym, ap, _∙_}
 use mathlib.Core.Bool.{Bool, true, false}
-use mathlib.Core.List.{List}
+use mathlib.Core.List.{List, _++_}
 use Prim.Native.Nat.{ℕ, zero, suc, _+_, _<_, _≤_}
 use native.Mathlib.Decide.{ℕ-discrete}
 use native.Mathlib.Omega.{arith}
 use lib.Dec.{eqb}
 use borrow.Author.Count.{below-more}
 use borrow.Author.Tests.{eqb-true, eqb-false}
-use lib.ListN.{getD, set, length, length-set}
-use lib.Seq.{getD-set-same, getD-set-other}
+use lib.ListN.{getD, set, length, drop, replicate, length-set, length-replicate, getD-replicate}
+use lib.Seq.{getD-set-same, getD-set-other, ext-getD, take-at, drop-at}
 use Rattle.files.specs.Table.{Table}
 use Rattle.model.specs.Rules.{Fact}
 use Rattle.model.specs.Positions.{Fits, pos}
 use Rattle.model.specs.Memory.{mark, Marked, total}
-use Rattle.store.specs.Marking.{room, Has, marked, Clear, Is}
+use Rattle.store.specs.Marking.{room, Has, marked, Clear, Cleared, Is}
 
 -- ---- the answer of a test
 
@@ -134,6 +134,19 @@ module _ (m : List ℕ) (clear : Clear m) where
   unfolding total
   clear-total zero r = refl
   clear-total (suc w) r = omega (arith, clear-total w (omega arith), clear w r)
+
+-- a clear memory is zeros
+pub clear-zeros : (m : List ℕ) → Clear m → m ≡ replicate (length m) 0
+clear-zeros m c =
+    ext-getD 0 m (replicate (length m) 0) (sym (length-replicate (length m) 0)) λ p h. c p h ∙ sym (getD-replicate (length m) p 0 0 h)
+
+-- a clear part before the bytes of a memory from w on
+pub first-cleared : (part m : List ℕ) (w : ℕ) → length part ≡ w → Clear part → Cleared w m (part ++ drop w m)
+first-cleared part m w e c =
+    record {
+      zeros = take-at part (drop w m) w e ∙ clear-zeros part c ∙ ap (λ (k : ℕ). replicate k 0) e;
+      rest = drop-at part (drop w m) w e;
+    }
 
 -- ---- the facts that a memory marks
 

@@ -1,14 +1,14 @@
 -- Two results that a contract allows are equal. Most contracts here are equations for the answer or the memory, and say so themselves; these are
--- those that are none: what a test answers, and a memory that is clear, whose length a loan keeps.
+-- those that are none: what a test answers, a memory that is clear, whose length a loan keeps, and one whose first marks are taken off.
 -- Assumes nothing.
-use mathlib.Core.Path.{_≡_, refl, sym, _∙_}
+use mathlib.Core.Path.{_≡_, refl, sym, ap₂, _∙_}
 use mathlib.Core.Bool.{Bool, true, false}
-use mathlib.Core.List.{List}
+use mathlib.Core.List.{List, _++_}
 use Prim.Native.Nat.{ℕ}
 use native.Mathlib.Omega.{arith}
-use lib.ListN.{length}
+use lib.ListN.{length, take, drop, take-append-drop}
 use lib.Seq.{ext-getD}
-use Rattle.store.specs.Marking.{Is, Clear}
+use Rattle.store.specs.Marking.{Is, Clear, Cleared}
 
 -- what has, some and lacks answer
 pub is-unique : (A : Type 0) (r r′ : Bool) → Is A r → Is A r′ → r ≡ r′
@@ -19,3 +19,10 @@ is-unique A false false a b = refl
 
 pub clear-unique : {m m′ : List ℕ} → length m ≡ length m′ → Clear m → Clear m′ → m ≡ m′
 clear-unique {m} {m′} long z z′ = ext-getD 0 m m′ long (λ p l. z p l ∙ sym (z′ p (omega arith)))
+
+-- a memory is one by its two parts
+pub parts-same : (w : ℕ) {m m′ : List ℕ} → take w m ≡ take w m′ → drop w m ≡ drop w m′ → m ≡ m′
+parts-same w {m} {m′} e q = sym (take-append-drop w m) ∙ ap₂ (λ (x y : List ℕ). x ++ y) e q ∙ take-append-drop w m′
+
+pub cleared-unique : {w : ℕ} {m m₁ m₂ : List ℕ} → Cleared w m m₁ → Cleared w m m₂ → m₁ ≡ m₂
+cleared-unique {w} c c′ = parts-same w (c .zeros ∙ sym (c′ .zeros)) (c .rest ∙ sym (c′ .rest))

@@ -1,7 +1,7 @@
 // The store: the only place that knows how a fact stands in memory. One byte a fact, 1 if it is marked.
 ghost use mathlib.Core.Path.{_≡_};
 ghost use Prim.Native.Nat.{_+_, _<_, _≤_};
-ghost use Rattle.store.specs.Marking.{room, Has, SomeIn, LacksIn, marked, Clear, Is};
+ghost use Rattle.store.specs.Marking.{room, Has, SomeIn, LacksIn, marked, Clear, Cleared, Is};
 
 // Whether there is a mark at p.
 pub fn has(mem: &[u8], p: usize) -> bool
@@ -59,4 +59,12 @@ pub fn clear(mem: &mut [u8])
         mem[i] = 0;
         i += 1;
     }
+}
+
+// Takes the first w marks off, and leaves the others as they are.
+pub fn clear_first(mem: &mut [u8], w: usize)
+    requires { ⌜ w ≤ room (now mem) ⌝ }
+    ensures { λ _. ⌜ Cleared w (now (mem .entry)) (now (mem .exit)) ⌝ }
+{
+    clear(&mut mem[..w]);
 }

@@ -11,12 +11,12 @@ use borrow.Fn.Kinds.{Dens, endedOf}
 use Rattle.rules.specs.declared.answer.Answer.{Answer}
 use Rattle.rules.specs.Answers.{replyOf}
 use Rattle.rules.proofs.Unique.{checked-same}
-use Rattle.claims.specs.declared.answer.ClaimAnswer.{ClaimAnswer}
-use Rattle.claims.specs.declared.write_answer.WriteAnswer.{WriteAnswer}
-use Rattle.claims.specs.Answers as claim
-use Rattle.claims.specs.WriteAnswers.{writeReplyOf}
-use Rattle.claims.proofs.Unique.{claim-checked-same}
-use Rattle.claims.proofs.WriteUnique.{claim-written-same}
+use Rattle.claim_checking.specs.declared.answer.ClaimAnswer.{ClaimAnswer}
+use Rattle.claim_writing.specs.declared.answer.WriteAnswer.{WriteAnswer}
+use Rattle.claim_checking.specs.Answers as claim
+use Rattle.claim_writing.specs.Answers.{writeReplyOf}
+use Rattle.claim_checking.proofs.Unique.{claim-checked-same}
+use Rattle.claim_writing.proofs.Unique.{claim-written-same}
 use Rattle.truppidane.specs.Told.{checkNumbers, writeNumbers, claimNumbers}
 use Rattle.truppidane.specs.Calls.{CheckTold, WriteTold, ClaimTold}
 use Rattle.truppidane.proofs.calls.truppidane_check.Reads as check

@@ -5,12 +5,12 @@ use Prim.Native.Nat.{ℕ}
 use Rattle.rules.specs.declared.answer.Answer.{Answer}
 use Rattle.rules.specs.Answers.{replyOf}
 use Rattle.rules.specs.Checking.{Checked}
-use Rattle.claims.specs.declared.answer.ClaimAnswer.{ClaimAnswer}
-use Rattle.claims.specs.declared.write_answer.WriteAnswer.{WriteAnswer}
-use Rattle.claims.specs.Answers as claim
-use Rattle.claims.specs.WriteAnswers.{writeReplyOf}
-use Rattle.claims.specs.ClaimChecking.{ClaimChecked}
-use Rattle.claims.specs.ClaimWriting.{ClaimWritten}
+use Rattle.claim_checking.specs.declared.answer.ClaimAnswer.{ClaimAnswer}
+use Rattle.claim_writing.specs.declared.answer.WriteAnswer.{WriteAnswer}
+use Rattle.claim_checking.specs.Answers as claim
+use Rattle.claim_writing.specs.Answers.{writeReplyOf}
+use Rattle.claim_checking.specs.ClaimChecking.{ClaimChecked}
+use Rattle.claim_writing.specs.ClaimWriting.{ClaimWritten}
 use Rattle.truppidane.specs.Told.{checkNumbers, writeNumbers, claimNumbers}
 
 -- the check of the file s within a budget, in the memory m, which is left as m′

@@ -8,11 +8,11 @@ use Rattle.rules.specs.declared.answer.Answer.{Answer}
 use Rattle.rules.specs.declared.answer.Answer.the-variants as check
 use Rattle.rules.specs.declared.answer.Reply.{Reply}
 use Rattle.rules.specs.Answers.{replyOf}
-use Rattle.claims.specs.declared.answer.ClaimAnswer.{ClaimAnswer}
-use Rattle.claims.specs.declared.write_answer.WriteAnswer.{WriteAnswer}
-use Rattle.claims.specs.declared.write_answer.WriteAnswer.the-variants as write
-use Rattle.claims.specs.Answers as claim
-use Rattle.claims.specs.WriteAnswers.{writeReplyOf}
+use Rattle.claim_checking.specs.declared.answer.ClaimAnswer.{ClaimAnswer}
+use Rattle.claim_writing.specs.declared.answer.WriteAnswer.{WriteAnswer}
+use Rattle.claim_writing.specs.declared.answer.WriteAnswer.the-variants as write
+use Rattle.claim_checking.specs.Answers as claim
+use Rattle.claim_writing.specs.Answers.{writeReplyOf}
 use Rattle.truppidane.specs.declared.told.VerdictNumbers.{VerdictNumbers}
 
 -- the numbers in their order

@@ -4,8 +4,8 @@ use crate::told::NUMBERS;
 use crate::told::check_numbers;
 use crate::told::claim_numbers;
 use crate::told::write_numbers;
-use claims::check::check_claim;
-use claims::write::write_claim;
+use claim_checking::check::check_claim;
+use claim_writing::write::write_claim;
 use rules::check::check;
 
 // Checks a table, in working memory and within a budget of facts. Tells the answer and gives its number.

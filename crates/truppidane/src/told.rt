@@ -11,9 +11,9 @@ ghost use Rattle.truppidane.specs.Told.{
   writeNumbers,
   claimNumbers,
 };
-use claims::answer::ClaimAnswer;
-use claims::write_answer::WriteAnswer;
-use claims::write_answer::write_reply_of;
+use claim_checking::answer::ClaimAnswer;
+use claim_writing::answer::WriteAnswer;
+use claim_writing::answer::write_reply_of;
 use rules::answer::Answer;
 use rules::answer::Reply;
 use rules::answer::reply_of;
@@ -170,5 +170,5 @@ pub fn write_numbers(answer: WriteAnswer) -> [usize; NUMBERS]
 pub fn claim_numbers(answer: ClaimAnswer) -> [usize; NUMBERS]
     ensures { λ r. ⌜ r ≡ claimNumbers answer ⌝ }
 {
-    numbers_of(claims::answer::reply_of(answer), no_verdict(), 0)
+    numbers_of(claim_checking::answer::reply_of(answer), no_verdict(), 0)
 }

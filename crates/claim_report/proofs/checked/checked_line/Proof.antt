@@ -1,7 +1,7 @@
 -- `claim_report::checked::checked_line` meets its contract: the claim is accepted if the answer's number is 0.
 -- Assumes nothing.
 use borrow.Author.Needs.{needs}
-use Rattle.claims.specs.Answers.{replyOf}
+use Rattle.claim_checking.specs.Answers.{replyOf}
 use Rattle.claim_report.proofs.ClaimLineLaws.{reply-accepted, reply-refused}
 use Rattle.claim_report.proofs.checked.checked_line.Statement.{statement}
 use Rattle.claim_report.proofs.checked.checked_line.Tie as tie

@@ -2,7 +2,7 @@
 -- Assumes nothing.
 use borrow.Author.Needs.{needs}
 use Rattle.report.proofs.AnswerLaws.{reply-done, reply-refused}
-use Rattle.claims.specs.WriteAnswers.{writeReplyOf}
+use Rattle.claim_writing.specs.Answers.{writeReplyOf}
 use Rattle.claim_report.proofs.written.first_line.Statement.{statement}
 use Rattle.claim_report.proofs.written.first_line.Tie as tie
 

@@ -1,0 +1,7 @@
+-- The laws of the claim check:
+--   ClaimOutcomes   what is found on the marked claim is what the claim check answers
+--   ClaimCases      what a result of the claim check tells
+--   Unique          two results that a contract allows are equal
+pub mod ClaimOutcomes
+pub mod ClaimCases
+pub mod Unique

@@ -1,0 +1,126 @@
+// The claim check: the bytes of a table and of a claim, and working memory in; an answer out.
+ghost use mathlib.Core.List.{List};
+ghost use Prim.Native.Nat.{ℕ, _≤_};
+ghost use lib.ListN.{length};
+ghost use Rattle.files.specs.Table.{Table};
+ghost use Rattle.rules.specs.Lent.{Stored};
+ghost use Rattle.claim_files.specs.ClaimFile.{mostFacts, claimAt, IsClaim, positionsOf};
+ghost use Rattle.claim_checking.specs.ClaimChecking.{OfPositions, OfTable, ClaimChecked};
+ghost use Rattle.claim_checking.specs.ClaimLent.{Lent, MarkedIn};
+use crate::answer::ClaimAnswer;
+use claim_files::reading::Claimed;
+use files::header::Header;
+use files::table::Counts;
+use files::table::Outcome;
+use findings::find::Finding;
+use store::marks::clear_first;
+
+// Marks the claimed facts in the first w bytes of a memory.
+fn mark_in(claim: &[u8], w: usize, mem: &mut [u8])
+    requires { ⌜ IsClaim w (now claim) × (w ≤ mostFacts) × (w ≤ length (now mem)) ⌝ }
+    ensures { λ _. ⌜ MarkedIn w (positionsOf (claimAt w (now (claim .entry)))) (now (mem .entry)) (now (mem .exit)) ⌝ }
+{
+    claim_files::reading::mark_claim(claim, w, &mut mem[..w]);
+}
+
+// Checks a claim that was read, of `count` facts, against a table whose rows are stored and that has room for w facts.
+fn check_facts(
+    header: Header,
+    counts: Counts,
+    steps: &[u8; 5120],
+    pushes: &[u8; 1280],
+    pops: &[u8; 1280],
+    errors: &[u8; 320],
+    claim: &[u8],
+    count: usize,
+    w: usize,
+    mem: &mut [u8],
+) -> ClaimAnswer
+    requires { ⌜ ((T : Table) × (ps : List ℕ) × Lent T ps header counts (now steps) (now pushes) (now pops) (now errors) (now claim) count w
+        × (w ≤ length (now mem))) ⌝ }
+    ensures { λ r. ⌜ ((T : Table) (ps : List ℕ)
+        → Lent T ps header counts (now (steps .entry)) (now (pushes .entry)) (now (pops .entry)) (now (errors .entry)) (now (claim .entry)) count w
+        → OfPositions T ps (now (mem .entry)) r (now (mem .exit))) ⌝ }
+{
+    mark_in(claim, w, mem);
+    match findings::find::find(header, counts, steps, pushes, pops, errors, mem) {
+        Finding::Accepted => ClaimAnswer::Accepted { count },
+        Finding::LacksStart { thread } => {
+            clear_first(mem, w);
+            ClaimAnswer::LacksStart { thread }
+        }
+        Finding::NotClosed { position } => {
+            clear_first(mem, w);
+            ClaimAnswer::NotClosed { position }
+        }
+        Finding::AllowsError { row } => {
+            clear_first(mem, w);
+            ClaimAnswer::AllowsError { row }
+        }
+    }
+}
+
+// Checks a claim against a table whose rows are stored, in working memory of any length.
+fn check_stored(
+    header: Header,
+    counts: Counts,
+    steps: &[u8; 5120],
+    pushes: &[u8; 1280],
+    pops: &[u8; 1280],
+    errors: &[u8; 320],
+    claim: &[u8],
+    mem: &mut [u8],
+) -> ClaimAnswer
+    requires { ⌜ ((T : Table) × Stored T header counts (now steps) (now pushes) (now pops) (now errors)) ⌝ }
+    ensures { λ r. ⌜ ((T : Table)
+        → Stored T header counts (now (steps .entry)) (now (pushes .entry)) (now (pops .entry)) (now (errors .entry))
+        → OfTable T (now (claim .entry)) (now (mem .entry)) r (now (mem .exit))) ⌝ }
+{
+    let sizes = header.sizes;
+    let w = files::header::room_of(sizes);
+    if mem.len() < w {
+        return ClaimAnswer::Short { room: w };
+    }
+    match claim_files::reading::read_claim(claim, w) {
+        Claimed::Read { count } => check_facts(
+            header,
+            counts,
+            steps,
+            pushes,
+            pops,
+            errors,
+            claim,
+            count,
+            w,
+            mem,
+        ),
+        Claimed::Refused { refusal } => ClaimAnswer::ClaimRefused { refusal },
+    }
+}
+
+// Checks a claim against a table. The rows of the table stand in the check's own memory.
+pub fn check_claim(table: &[u8], claim: &[u8], mem: &mut [u8]) -> ClaimAnswer
+    ensures { λ r. ⌜ ClaimChecked (now (table .entry)) (now (claim .entry)) (now (mem .entry)) r (now (mem .exit)) ⌝ }
+{
+    let mut steps = [0u8; 5120];
+    let mut pushes = [0u8; 1280];
+    let mut pops = [0u8; 1280];
+    let mut errors = [0u8; 320];
+    let read = files::table::read_table(table, &mut steps, &mut pushes, &mut pops, &mut errors);
+    let header = read.header;
+    let counts = read.counts;
+    let outcome = read.outcome;
+    match outcome {
+        Outcome::Accepted => check_stored(
+            header,
+            counts,
+            &steps,
+            &pushes,
+            &pops,
+            &errors,
+            claim,
+            mem,
+        ),
+        Outcome::Refused { refusal } => ClaimAnswer::TableRefused { refusal },
+    }
+}

@@ -1,0 +1,9 @@
+-- The laws of claim writing:
+--   PositionsOfFacts  the positions that a finished check leaves marked are those of the facts
+--   WritingStages     what is written of these marks is the claim of the facts
+--   WrittenLaws       what was written is read as the facts; one to one; accepted where the verdict is safe
+--   Unique            two results that a contract allows are equal
+pub mod PositionsOfFacts
+pub mod WritingStages
+pub mod WrittenLaws
+pub mod Unique

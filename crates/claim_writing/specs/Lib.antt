@@ -1,0 +1,8 @@
+-- What claim writing promises (document 01, "Working memory and claims", "What comes back"). The public contracts cite
+--   Answers         the number, origin and value of each answer
+--   ClaimWriting    what claim writing does, on every input
+-- and the private ones besides
+--   WriteStages     what is written of a memory's marks
+pub mod Answers
+pub mod ClaimWriting
+pub mod WriteStages
