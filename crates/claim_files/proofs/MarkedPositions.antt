@@ -3,20 +3,18 @@
 --     marked-most           they are no more than the positions that are looked at
 --     positions-total       they are as many as the marks are in sum
 --     Coming, coming        the marked positions from a place on: the first of them, and those after it
---     Seeking, seek-…       the loop that looks for the first
 -- Assumes nothing.
-use mathlib.Core.Path.{_≡_, refl, ap, _∙_}
+use mathlib.Core.Path.{_≡_, refl, _∙_}
 use mathlib.Core.List.{List, [], _∷_}
 use Prim.Native.Nat.{ℕ, zero, suc, _+_, _-_, _≤_, _<_}
 use native.Mathlib.Omega.{arith}
-use native.Mathlib.Decide.{decLt}
 use borrow.Author.Tests.{eq-eqb, ne-eqb}
 use lib.ListN.{length}
 use Rattle.model.specs.Memory.{mark, total}
-use Rattle.store.specs.Marking.{Has}
+use Rattle.store.specs.Marking.{Has, NextMark}
 use Rattle.store.proofs.MarkLaws.{BitsTo, has?}
+use Rattle.store.proofs.NextLaws.{next-past, next-first, next-skip}
 use Rattle.claim_files.specs.Marks.{markedFrom, positionsIn}
-use Rattle.claim_files.specs.Stages.{firstOr}
 
 pub marked-none : (mem : List ℕ) (p : ℕ) → markedFrom mem p 0 ≡ []
 unfolding markedFrom
@@ -89,57 +87,23 @@ pub record Coming (mem : List ℕ) (w last p : ℕ) (rest : List ℕ) : Type 0 w
   pub none : w ≤ p → rest ≡ []
 
 module _ (mem : List ℕ) (w last : ℕ) where
-  coming-from : (k from p : ℕ) → last ≤ from → from + k ≡ w → p ≡ firstOr w (markedFrom mem from k) → Coming mem w last p (markedFrom mem from k)
+  coming-from : (k from p : ℕ) → last ≤ from → from + k ≡ w → NextMark mem from w p → Coming mem w last p (markedFrom mem from k)
   unfolding markedFrom
-  coming-from zero from p h e f = record { some = λ l. absurd (omega arith); none = λ _. refl }
-  coming-from (suc k) from p h e f = go (has? mem from) (coming-from k (from + 1) p (omega arith) (omega arith))
+  coming-from zero from p h e n =
+      record { some = λ l. absurd (omega (arith, next-past (omega arith) n)); none = λ _. refl }
+  coming-from (suc k) from p h e n = go (has? mem from) (coming-from k (from + 1) p (omega arith) (omega arith))
     where
-      go : Dec (Has mem from) → (p ≡ firstOr w (markedFrom mem (from + 1) k) → Coming mem w last p (markedFrom mem (from + 1) k))
+      go : Dec (Has mem from) → (NextMark mem (from + 1) w p → Coming mem w last p (markedFrom mem (from + 1) k))
           → Coming mem w last p (markedFrom mem from (suc k))
       go (yes i) rec =
           let m = marked-here mem from k i in
-          let is : p ≡ from = f ∙ ap (firstOr w) m in
+          let is : p ≡ from = next-first (omega arith) i n in
           let left : k ≡ w - (from + 1) = omega arith in
           record { some = λ l. (omega arith, m ∙ rw (is, left)); none = λ l. absurd (omega arith) }
       go (no i) rec =
           let m = marked-skip mem from k i in
-          let c = rec (f ∙ ap (firstOr w) m) in
+          let c = rec (next-skip (omega arith) i n) in
           record { some = λ l. (c .some l .0, m ∙ c .some l .1); none = λ l. m ∙ c .none l }
 
-  pub coming : (from p : ℕ) → last ≤ from → from ≤ w → p ≡ firstOr w (markedFrom mem from (w - from))
-      → Coming mem w last p (markedFrom mem from (w - from))
-  coming from p h i f = coming-from (w - from) from p h (omega arith) f
-
--- what is looked for from a place on is not before it
-pub next-past : (mem : List ℕ) (w from p : ℕ) → from ≤ w → p ≡ firstOr w (markedFrom mem from (w - from)) → from ≤ p
-next-past mem w from p h f = go (decLt p w)
-  where
-    go : Dec (p < w) → from ≤ p
-    go (yes l) = coming mem w from from p (omega arith) h f .some l .0
-    go (no l) = omega arith
-
--- ---- the loop that looks for it: none is marked from `from` up to p
-
-pub record Seeking (mem : List ℕ) (from w p : ℕ) : Type 0 where
-  pub up : p ≤ w
-  pub same : markedFrom mem from (w - from) ≡ markedFrom mem p (w - p)
-
-module _ {mem : List ℕ} {from w : ℕ} where
-  pub seek-start : from ≤ w → Seeking mem from w from
-  seek-start h = record { up = h; same = refl }
-
-  module _ {p : ℕ} (s : Seeking mem from w p) where
-    pub seek-found : p < w → Has mem p → p ≡ firstOr w (markedFrom mem from (w - from))
-    seek-found h i =
-        let left : w - p ≡ suc (w - (p + 1)) = omega arith in
-        rw (s .same, left, marked-here mem p (w - (p + 1)) i)
-
-    pub seek-more : p < w → ¬ Has mem p → Seeking mem from w (p + 1)
-    seek-more h i =
-        let left : w - p ≡ suc (w - (p + 1)) = omega arith in
-        record { up = omega arith; same = s .same ∙ rw (left, marked-skip mem p (w - (p + 1)) i) }
-
-    pub seek-end : w ≤ p → w ≡ firstOr w (markedFrom mem from (w - from))
-    seek-end h =
-        let none : w - p ≡ 0 = omega arith in
-        rw (s .same, none, marked-none)
+  pub coming : (from p : ℕ) → last ≤ from → from ≤ w → NextMark mem from w p → Coming mem w last p (markedFrom mem from (w - from))
+  coming from p h i n = coming-from (w - from) from p h (omega arith) n

@@ -10,10 +10,11 @@ use lib.Seq.{sets, length-sets}
 use Rattle.numbers.specs.Writing.{bytesOf}
 use Rattle.numbers.proofs.WritingLaws.{one-to-four-bytes}
 use Rattle.files.proofs.RowMemory.{sets-append}
+use Rattle.store.specs.Marking.{NextMark}
 use Rattle.claim_files.specs.declared.writing.Sizes.{Sizes}
 use Rattle.claim_files.specs.ClaimFile.{distancesFrom, bytesOfAll, claimBytes, ClaimPut}
 use Rattle.claim_files.specs.Marks.{markedFrom, positionsIn}
-use Rattle.claim_files.specs.Stages.{firstOr, positionBytes, sizesOf, Put}
+use Rattle.claim_files.specs.Stages.{positionBytes, sizesOf, Put}
 use Rattle.claim_files.proofs.MarkedPositions.{Coming, coming, positions-most}
 
 -- ---- the bytes of positions
@@ -50,7 +51,7 @@ unfolding positionsIn
 from-zero mem w = rw (sub-zero w)
 
 module _ {mem : List ℕ} {w : ℕ} where
-  pub size-start : {p : ℕ} → p ≡ firstOr w (markedFrom mem 0 (w - 0)) → Sizing mem w 0 0 0 p
+  pub size-start : {p : ℕ} → NextMark mem 0 w p → Sizing mem w 0 0 0 p
   size-start {p} f =
       record {
         rest = markedFrom mem 0 (w - 0);
@@ -69,7 +70,7 @@ module _ {mem : List ℕ} {w : ℕ} where
       (a .0, omega (arith, positions-most w mem), omega (arith, positions-most w mem, bytes-most 0 (positionsIn w mem)))
 
   pub size-more : {count width last p q b : ℕ} → Sizing mem w count width last p → p < w → b ≡ length (bytesOf (p - last))
-      → q ≡ firstOr w (markedFrom mem (p + 1) (w - (p + 1))) → Sizing mem w (count + 1) (width + b) p q
+      → NextMark mem (p + 1) w q → Sizing mem w (count + 1) (width + b) p q
   size-more {count} {width} {last} {p} {q} s h e f =
       let a = s .ahead .some h in
       let c = rw (a .1) at (s .counted) in
@@ -100,7 +101,7 @@ pub record Writing (mem : List ℕ) (w at : ℕ) (space₀ space : List ℕ) (ne
   pub past : at + length (positionBytes 0 (positionsIn w mem)) ≡ next + length (positionBytes last rest)
 
 module _ {mem : List ℕ} {w at : ℕ} {space₀ : List ℕ} where
-  pub write-start : {p : ℕ} → at + length (positionBytes 0 (positionsIn w mem)) ≤ length space₀ → p ≡ firstOr w (markedFrom mem 0 (w - 0))
+  pub write-start : {p : ℕ} → at + length (positionBytes 0 (positionsIn w mem)) ≤ length space₀ → NextMark mem 0 w p
       → Writing mem w at space₀ space₀ at 0 p
   write-start {p} h f =
       record {
@@ -120,7 +121,7 @@ module _ {mem : List ℕ} {w at : ℕ} {space₀ : List ℕ} where
         (a .0, omega arith)
 
     pub write-more : {space′ : List ℕ} {next′ q : ℕ} → p < w → Put (bytesOf (p - last)) next space space′ next′
-        → q ≡ firstOr w (markedFrom mem (p + 1) (w - (p + 1))) → Writing mem w at space₀ space′ next′ p q
+        → NextMark mem (p + 1) w q → Writing mem w at space₀ space′ next′ p q
     write-more {space′} {next′} {q} h put f =
         let a = s .ahead .some h in
         let b = bytes-more last p (markedFrom mem (p + 1) (w - (p + 1))) in

@@ -13,11 +13,6 @@ unfoldable pub markedAll : List ℕ → List ℕ → List ℕ
 markedAll mem [] = mem
 markedAll mem (p ∷ ps) = markedAll (marked mem p) ps
 
--- the first of a list, or `other` where it is empty
-abbrev pub firstOr : ℕ → List ℕ → ℕ
-firstOr other [] = other
-firstOr other (p ∷ ps) = p
-
 -- the bytes of the positions of a claim, the first as its distance from `last`
 unfoldable pub positionBytes : ℕ → List ℕ → List ℕ
 positionBytes last ps = bytesOfAll (distancesFrom last ps)

@@ -1,13 +1,14 @@
 // Writing the claim of the facts that are marked. Its count stands before its positions, so the memory is gone through twice: once for the count
 // and the width, and once for the positions.
 ghost use mathlib.Core.Path.{_≡_};
-ghost use Prim.Native.Nat.{_+_, _-_, _≤_};
+ghost use Prim.Native.Nat.{_+_, _≤_};
 ghost use lib.ListN.{length};
 ghost use Rattle.numbers.specs.Writing.{bytesOf};
 ghost use Rattle.store.specs.Marking.{room};
 ghost use Rattle.claim_files.specs.ClaimFile.{mostFacts, claimBytes, ClaimPut};
-ghost use Rattle.claim_files.specs.Marks.{markedFrom, positionsIn};
-ghost use Rattle.claim_files.specs.Stages.{firstOr, positionBytes, sizesOf, Put};
+ghost use Rattle.claim_files.specs.Marks.{positionsIn};
+ghost use Rattle.claim_files.specs.Stages.{positionBytes, sizesOf, Put};
+use store::marks::next_mark;
 
 // The version of a claim.
 const VERSION: usize = 1;
@@ -16,21 +17,6 @@ const VERSION: usize = 1;
 struct Sizes {
     count: usize,
     width: usize,
-}
-
-// The first marked position from `from` on, or w where there is none below w.
-fn next_mark(mem: &[u8], from: usize, w: usize) -> usize
-    requires { ⌜ (from ≤ w) × (w ≤ room (now mem)) ⌝ }
-    ensures { λ r. ⌜ r ≡ firstOr w (markedFrom (now (mem .entry)) from (w - from)) ⌝ }
-{
-    let mut p = from;
-    while p < w {
-        if store::marks::has(mem, p) {
-            return p;
-        }
-        p += 1;
-    }
-    w
 }
 
 // How many positions below w are marked, and how many bytes they take in a claim.

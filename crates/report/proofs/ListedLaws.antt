@@ -1,15 +1,12 @@
--- The search for the next mark goes from `from` on and passes what is not marked; and what it comes to is what is listed next.
---     passed-none, passed-more              the loop
---     found-here, found-none, found-below   its two ends
+-- What the next mark is, is listed next.
 --     next-short, next-none, next-line      what comes next, by the plan
 --     goes-on                               after a line, the list goes on further on
 --     was-read, was-refused, got-header     what the header's reader tells
 --     header-sizes, next-read               a header that was read has a plan, and what comes next by it is what comes next of the file
 -- Assumes nothing.
-use mathlib.Core.Path.{_≡_, refl, sym, ap, subst, _∙_}
+use mathlib.Core.Path.{_≡_, sym, ap, subst, _∙_}
 use mathlib.Core.List.{List}
 use Prim.Native.Nat.{ℕ, _+_, _≤_, _<_}
-use native.Mathlib.Decide.{ℕ-discrete}
 use native.Mathlib.Omega.{arith}
 use lib.ListN.{length}
 use lib.Seq.{length-sets}
@@ -23,49 +20,14 @@ use Rattle.files.specs.Table.{mostThreads, mostShared, mostLocals, mostFrames}
 use Rattle.files.specs.Header.{headerAt, headerReadOf}
 use Rattle.files.proofs.TableLaws.{header-fits}
 use Rattle.store.specs.declared.plan.Plan.{Plan}
-use Rattle.store.specs.Marking.{room, Has}
+use Rattle.store.specs.Marking.{room, NextMark}
+use Rattle.store.proofs.NextLaws.{next-found, next-end}
 use Rattle.text.specs.Text.{Counts, Written}
 use Rattle.text.specs.Listing.{factLine}
 use Rattle.text.specs.Facts.{planFact}
-use Rattle.verdict.specs.Search.{Least, smallest, nothing}
 use Rattle.report.specs.declared.facts.Next.{Next}
 use Rattle.report.specs.declared.facts.Next.the-variants.{Line, End}
-use Rattle.report.specs.Listed.{MarkFrom, NextIn, line, end, NextOf, read, refused, planIn}
-
--- ---- the loop
-
--- no mark at or past `from` stands before p
-pub record Passed (mem : List ℕ) (from p : ℕ) : Type 0 where
-  pub past : from ≤ p
-  pub none : (q : ℕ) → from ≤ q → q < p → ¬ Has mem q
-
-module _ {mem : List ℕ} {from : ℕ} where
-  pub passed-none : Passed mem from from
-  passed-none = record { past = omega arith; none = λ q a b. absurd (omega arith) }
-
-  module _ {p : ℕ} (h : Passed mem from p) where
-    pub passed-more : ¬ Has mem p → Passed mem from (p + 1)
-    passed-more n = record { past = omega (arith, h .past); none = λ q a b. by q a b (ℕ-discrete q p) }
-      where
-        by : (q : ℕ) → from ≤ q → q < p + 1 → Dec (q ≡ p) → ¬ Has mem q
-        by q a b (yes e) = rw e n
-        by q a b (no d) = h .none q a (omega arith)
-
-    module _ {w : ℕ} where
-      pub found-here : p < w → Has mem p → Least (MarkFrom mem w from) w p
-      found-here l m =
-          smallest l
-          (record {
-            here = record { past = h .past; below = l; has = m };
-            none = λ q b k. h .none q (k .past) b (k .has);
-          })
-
-      pub found-none : w ≤ p → Least (MarkFrom mem w from) w w
-      found-none l = nothing refl (λ q k. h .none q (k .past) (omega (arith, k .below)) (k .has))
-
-pub found-below : {A : ℕ → Type 0} {w p : ℕ} → Least A w p → ¬ (p ≡ w) → p < w
-found-below (smallest l f) n = l
-found-below (nothing e none) n = absurd (n e)
+use Rattle.report.specs.Listed.{NextIn, line, end, NextOf, read, refused, planIn}
 
 -- ---- what comes next
 
@@ -74,15 +36,14 @@ module _ {s : Plan} {mem : List ℕ} {from : ℕ} {before : List ℕ} where
   next-short l = end (λ p k. omega (arith, k .enough))
 
   module _ {p : ℕ} where
-    pub next-none : Least (MarkFrom mem (s .w) from) (s .w) p → p ≡ s .w → NextIn s mem from before End before
-    next-none (smallest l f) e = absurd (omega arith)
-    next-none (nothing _ none) e = end (λ q k. none q (k .mark))
+    pub next-none : NextMark mem from (s .w) p → p ≡ s .w → NextIn s mem from before End before
+    next-none m e = end (λ q k. next-end m e q (k .mark))
 
-    pub next-line : {length : ℕ} {after : List ℕ} → s .w ≤ room mem → Least (MarkFrom mem (s .w) from) (s .w) p → ¬ (p ≡ s .w)
+    pub next-line : {length : ℕ} {after : List ℕ} → s .w ≤ room mem → NextMark mem from (s .w) p → ¬ (p ≡ s .w)
         → Written (factLine (planFact s p)) before after length → NextIn s mem from before (Line length (p + 1)) after
-    next-line r (smallest l f) n w =
+    next-line r m n w =
+        let f = next-found m n in
         line (record { here = record { enough = r; mark = f .here }; none = λ q b k. f .none q b (k .mark) }) w
-    next-line r (nothing e none) n w = absurd (n e)
 
 -- ---- going on
 

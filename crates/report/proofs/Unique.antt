@@ -4,15 +4,13 @@
 -- Assumes nothing.
 use mathlib.Core.Path.{_≡_, refl, sym, _∙_}
 use mathlib.Core.List.{List}
-use Prim.Native.Nat.{ℕ, _+_, _<_}
-use native.Mathlib.Decide.{decLt}
-use native.Mathlib.Omega.{arith}
+use Prim.Native.Nat.{ℕ, _+_}
 use contract.Lifetimes.{Lfts}
 use denote.Ref.{now}
 use denote.Triple.Clauses.{AtExit}
 use borrow.Fn.Kinds.{Dens, endedOf}
 use Rattle.numbers.proofs.ReadingLaws.{never}
-use Rattle.model.specs.Claims.{First}
+use Rattle.model.proofs.Unique.{first-same}
 use Rattle.store.specs.declared.plan.Plan.{Plan}
 use Rattle.text.specs.Text.{Written}
 use Rattle.text.specs.Listing.{factLine}
@@ -42,14 +40,6 @@ pub verdict-line-fixes : (κs : Lfts 2) (a : Dens κs verdict-line-kinds.ps) (x 
 verdict-line-fixes κs a x x′ s s′ = written-unique
 
 -- ---- the next fact
-
-first-same : {A : ℕ → Type 0} {p q : ℕ} → First A p → First A q → p ≡ q
-first-same {p} {q} f g = by (decLt p q) (decLt q p)
-  where
-    by : Dec (p < q) → Dec (q < p) → p ≡ q
-    by (yes l) _ = absurd (g .none p l (f .here))
-    by (no a) (yes l) = absurd (f .none q l (g .here))
-    by (no a) (no b) = omega arith
 
 abbrev Same : Next → Next → List ℕ → List ℕ → Type 0
 Same r r′ after after′ = (r ≡ r′) × (after ≡ after′)

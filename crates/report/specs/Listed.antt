@@ -1,7 +1,7 @@
 -- The facts that a listing prints, "in position order", and the line of the next one (document 01, "Reference tables and results").
 use mathlib.Core.Path.{_≡_}
 use mathlib.Core.List.{List}
-use Prim.Native.Nat.{ℕ, _+_, _≤_, _<_}
+use Prim.Native.Nat.{ℕ, _+_, _≤_}
 use Rattle.numbers.specs.declared.refusals.Refusal.{Refusal}
 use Rattle.numbers.specs.Reading.{got, bad}
 use Rattle.files.specs.declared.columns.Sizes.{Sizes}
@@ -10,23 +10,17 @@ use Rattle.files.specs.Header.{headerAt}
 use Rattle.model.specs.Claims.{First}
 use Rattle.store.specs.declared.plan.Plan.{Plan}
 use Rattle.store.specs.Plans.{sized}
-use Rattle.store.specs.Marking.{room, Has}
+use Rattle.store.specs.Marking.{room, MarkFrom}
 use Rattle.text.specs.Text.{Written}
 use Rattle.text.specs.Listing.{factLine}
 use Rattle.text.specs.Facts.{planFact}
 use Rattle.report.specs.declared.facts.Next.{Next}
 use Rattle.report.specs.declared.facts.Next.the-variants.{Line, End}
 
--- p is at or past `from`, among the first w marks of a memory, and marked
-pub record MarkFrom (mem : List ℕ) (w from p : ℕ) : Type 0 where
-  pub past : from ≤ p
-  pub below : p < w
-  pub has : Has mem p
-
 -- the fact at p is listed, from `from` on: it is marked, in a memory that has room for all facts of the plan
 pub record Listed (s : Plan) (mem : List ℕ) (from p : ℕ) : Type 0 where
   pub enough : s .w ≤ room mem
-  pub mark : MarkFrom mem (s .w) from p
+  pub mark : MarkFrom mem from (s .w) p
 
 -- What comes next, of a table with this plan: the line of the first fact that is listed, and the position past it; or, where none is, the end, with
 -- nothing written. A line is written into a buffer that held `before`.

@@ -1,12 +1,9 @@
 // The lines of the facts, one at a call, in position order.
-ghost use Prim.Native.Nat.{_≤_};
-ghost use Rattle.store.specs.Marking.{room};
 ghost use Rattle.store.specs.Plans.{Planned};
-ghost use Rattle.verdict.specs.Search.{Least};
-ghost use Rattle.report.specs.Listed.{MarkFrom, NextIn, NextOf};
+ghost use Rattle.report.specs.Listed.{NextIn, NextOf};
 use files::header::read_header;
 use files::rows::End;
-use store::marks::has;
+use store::marks::next_mark;
 use store::plan::Plan;
 use store::plan::plan_of;
 use text::lines::ROOM;
@@ -18,21 +15,6 @@ pub enum Next {
     End,
 }
 
-// The first mark at or past `from` among the first w; w if there is none.
-fn first_mark(mem: &[u8], w: usize, from: usize) -> usize
-    requires { ⌜ w ≤ room (now mem) ⌝ }
-    ensures { λ r. ⌜ Least (MarkFrom (now (mem .entry)) w from) w r ⌝ }
-{
-    let mut p = from;
-    while p < w {
-        if has(mem, p) {
-            return p;
-        }
-        p += 1;
-    }
-    w
-}
-
 // The next fact of a table with plan s.
 fn next_in(s: Plan, mem: &[u8], from: usize, out: &mut [u8; ROOM]) -> Next
     requires { ⌜ Planned s ⌝ }
@@ -42,7 +24,7 @@ fn next_in(s: Plan, mem: &[u8], from: usize, out: &mut [u8; ROOM]) -> Next
     if mem.len() < w {
         return Next::End;
     }
-    let p = first_mark(mem, w, from);
+    let p = next_mark(mem, from, w);
     if p == w {
         return Next::End;
     }

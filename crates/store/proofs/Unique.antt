@@ -1,5 +1,6 @@
 -- Two results that a contract allows are equal. Most contracts here are equations for the answer or the memory, and say so themselves; these are
--- those that are none: what a test answers, a memory that is clear, whose length a loan keeps, and one whose first marks are taken off.
+-- those that are none: what a test answers, the next mark, a memory that is clear, whose length a loan keeps, and one whose first marks are taken
+-- off.
 -- Assumes nothing.
 use mathlib.Core.Path.{_≡_, refl, sym, ap₂, _∙_}
 use mathlib.Core.Bool.{Bool, true, false}
@@ -8,7 +9,8 @@ use Prim.Native.Nat.{ℕ}
 use native.Mathlib.Omega.{arith}
 use lib.ListN.{length, take, drop, take-append-drop}
 use lib.Seq.{ext-getD}
-use Rattle.store.specs.Marking.{Is, Clear, Cleared}
+use Rattle.model.proofs.Unique.{first-same}
+use Rattle.store.specs.Marking.{Is, NextMark, here, nowhere, Clear, Cleared}
 
 -- what has, some and lacks answer
 pub is-unique : (A : Type 0) (r r′ : Bool) → Is A r → Is A r′ → r ≡ r′
@@ -16,6 +18,12 @@ is-unique A true true a b = refl
 is-unique A true false a b = absurd (b a)
 is-unique A false true a b = absurd (a b)
 is-unique A false false a b = refl
+
+pub next-unique : {m : List ℕ} {from w p q : ℕ} → NextMark m from w p → NextMark m from w q → p ≡ q
+next-unique (here f) (here g) = first-same f g
+next-unique (here f) (nowhere n) = absurd (n _ (f .here))
+next-unique (nowhere n) (here g) = absurd (n _ (g .here))
+next-unique (nowhere n) (nowhere _) = refl
 
 pub clear-unique : {m m′ : List ℕ} → length m ≡ length m′ → Clear m → Clear m′ → m ≡ m′
 clear-unique {m} {m′} long z z′ = ext-getD 0 m m′ long (λ p l. z p l ∙ sym (z′ p (omega arith)))

@@ -1,10 +1,11 @@
--- A mark in the lent memory. What stands above speaks of room, Has, marked, Clear and Cleared alone; only here they are tied to model's mark.
+-- A mark in the lent memory. What stands above speaks of what is defined here; only here they are tied to model's mark.
 use mathlib.Core.Path.{_≡_}
 use mathlib.Core.Bool.{Bool, true, false}
 use mathlib.Core.List.{List}
-use Prim.Native.Nat.{ℕ, _+_, _<_}
+use Prim.Native.Nat.{ℕ, _+_, _<_, _≤_}
 use lib.ListN.{set, length, take, drop, replicate}
 use Rattle.model.specs.Memory.{mark}
+use Rattle.model.specs.Claims.{First}
 
 -- how many marks a memory has room for
 abbrev pub room : List ℕ → ℕ
@@ -27,6 +28,17 @@ SomeIn m x n = Among (λ j. Has m (x + j)) n
 -- one of the n places from x on has a mark where its partner, of the n from y on, has none
 abbrev pub LacksIn : List ℕ → ℕ → ℕ → ℕ → Type 0
 LacksIn m x y n = Among (λ j. Has m (x + j) × ¬ Has m (y + j)) n
+
+-- p is at or past `from`, below w, and marked
+pub record MarkFrom (m : List ℕ) (from w p : ℕ) : Type 0 where
+  pub past : from ≤ p
+  pub below : p < w
+  pub has : Has m p
+
+-- the first mark at or past `from` and below w; or w, where there is none
+pub data NextMark (m : List ℕ) (from w : ℕ) : ℕ → Type 0 where
+  here : {p : ℕ} → First (MarkFrom m from w) p → NextMark m from w p
+  nowhere : ((p : ℕ) → ¬ MarkFrom m from w p) → NextMark m from w w
 
 -- the memory with a mark put at p
 unfoldable pub marked : List ℕ → ℕ → List ℕ

@@ -1,7 +1,7 @@
 // The store: the only place that knows how a fact stands in memory. One byte a fact, 1 if it is marked.
 ghost use mathlib.Core.Path.{_≡_};
 ghost use Prim.Native.Nat.{_+_, _<_, _≤_};
-ghost use Rattle.store.specs.Marking.{room, Has, SomeIn, LacksIn, marked, Clear, Cleared, Is};
+ghost use Rattle.store.specs.Marking.{room, Has, SomeIn, LacksIn, NextMark, marked, Clear, Cleared, Is};
 
 // Whether there is a mark at p.
 pub fn has(mem: &[u8], p: usize) -> bool
@@ -40,6 +40,21 @@ pub fn lacks(mem: &[u8], x: usize, y: usize, n: usize) -> bool
         j += 1;
     }
     found != 0
+}
+
+// The first mark at or past `from` and below w; w if there is none.
+pub fn next_mark(mem: &[u8], from: usize, w: usize) -> usize
+    requires { ⌜ w ≤ room (now mem) ⌝ }
+    ensures { λ r. ⌜ NextMark (now (mem .entry)) from w r ⌝ }
+{
+    let mut p = from;
+    while p < w {
+        if has(mem, p) {
+            return p;
+        }
+        p += 1;
+    }
+    w
 }
 
 // Puts a mark at p.

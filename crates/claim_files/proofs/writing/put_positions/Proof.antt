@@ -3,7 +3,7 @@
 use borrow.Author.Needs.{needs}
 use Prim.Native.Nat.{_-_}
 use native.Mathlib.Omega.{arith}
-use Rattle.claim_files.proofs.MarkedPositions.{next-past}
+use Rattle.store.proofs.NextLaws.{next-past}
 use Rattle.claim_files.proofs.WritingLoops.{Writing, write-start, write-room, write-more, write-end}
 use Rattle.claim_files.proofs.writing.put_positions.Statement.{statement}
 use Rattle.claim_files.proofs.writing.put_positions.Tie as tie
@@ -30,10 +30,10 @@ add-next-mark : tie.Need-add-next-mark Inv-loop μ-loop
 add-next-mark c = omega arith
 
 next-mark-requires-2 : tie.Need-next-mark-requires-2 Inv-loop μ-loop
-next-mark-requires-2 c κs = (omega arith, search needs)
+next-mark-requires-2 c κs = search needs
 
 loop-less : tie.Need-loop-less Inv-loop μ-loop
-loop-less c = omega (arith, next-past _ _ _ _ (omega arith) (c .next-mark2 .ensures))
+loop-less c = omega (arith, next-past (omega arith) (c .next-mark2 .ensures))
 
 loop-again : tie.Need-loop-again Inv-loop μ-loop
 loop-again c =

@@ -2,34 +2,35 @@
 -- Assumes nothing.
 use native.Mathlib.Omega.{arith}
 use borrow.Author.Needs.{needs}
-use Rattle.report.proofs.ListedLaws.{found-below, next-short, next-none, next-line}
+use Rattle.store.proofs.NextLaws.{next-found}
+use Rattle.report.proofs.ListedLaws.{next-short, next-none, next-line}
 use Rattle.report.proofs.facts.next_in.Statement.{statement}
 use Rattle.report.proofs.facts.next_in.Tie as tie
 
 returns : tie.Need-returns
 returns c = next-short (omega arith)
 
-first-mark-requires : tie.Need-first-mark-requires
-first-mark-requires c κs = search needs
+next-mark-requires : tie.Need-next-mark-requires
+next-mark-requires c κs = search needs
 
 returns-2 : tie.Need-returns-2
-returns-2 c = next-none (c .before .first-mark .ensures) (c .if2 .taken)
+returns-2 c = next-none (c .before .next-mark .ensures) (c .if2 .taken)
 
 fact-line-requires : tie.Need-fact-line-requires
 fact-line-requires c κs =
     let found = c .before .before in
-    (found .before .before .before .pre, found-below (found .first-mark .ensures) (c .before .if2 .left))
+    (found .before .before .before .pre, next-found (found .next-mark .ensures) (c .before .if2 .left) .here .below)
 
 add-next : tie.Need-add-next
 add-next c =
     let found = c .before .before .before in
-    search (needs, found-below (found .first-mark .ensures) (c .before .before .if2 .left), found .before .before .before .pre .w-max)
+    search (needs, next-found (found .next-mark .ensures) (c .before .before .if2 .left) .here .below, found .before .before .before .pre .w-max)
 
 returns-3 : tie.Need-returns-3
 returns-3 c =
-    next-line (omega arith) (c .before .before .before .first-mark .ensures) (c .before .before .if2 .left) (c .fact-line .ensures)
+    next-line (omega arith) (c .before .before .before .next-mark .ensures) (c .before .before .if2 .left) (c .fact-line .ensures)
 
 pub next-in-spec : {M : Type 1} → statement M
 next-in-spec =
     tie.close
-    (tie.spec returns first-mark-requires returns-2 fact-line-requires add-next returns-3)
+    (tie.spec returns next-mark-requires returns-2 fact-line-requires add-next returns-3)
