@@ -1,30 +1,30 @@
 // The program `claim_check TABLE CLAIM`: checks the claim in a file against the table in another. Prints that it is accepted, with its count of facts; or
 // the refusal. What a file is at fault for is said on standard error.
 ghost use mathlib.Core.Path.{_≡_};
+ghost use Prim.Native.Nat.{_+_};
 ghost use lib.ListN.{length};
-use claim_report::checked::checked_line;
+ghost use Rattle.files.specs.Table.{mostFacts};
 use claim_checking::check::check_claim;
+use claim_report::checked::checked_line;
 use libc::STDERR_FILENO;
 use libc::STDOUT_FILENO;
+use store::plan::MOST_FACTS;
 use text::lines::ROOM;
 
-// W of the largest table that the limits allow.
-const MOST: usize = 2360320;
-
 // Working memory for any table. The `ensures` gives its length, which lending it asks.
-fn memory() -> [u8; MOST]
-    ensures { λ r. ⌜ 2360320 ≡ length r ⌝ }
+fn memory() -> [u8; MOST_FACTS]
+    ensures { λ r. ⌜ mostFacts ≡ length r ⌝ }
 {
-    [0; MOST]
+    [0; MOST_FACTS]
 }
 
 // The room for a claim. No sound one has more than W + 5 bytes (see `claim_write`), and after so many at most three more bytes can belong to a number
 // that is not at its end. So of a file that is longer than the room, what comes back is what would come back of the whole.
-const CLAIM_ROOM: usize = MOST + 9;
+const CLAIM_ROOM: usize = MOST_FACTS + 9;
 
 // Room for the claim.
 fn room() -> [u8; CLAIM_ROOM]
-    ensures { λ r. ⌜ 2360329 ≡ length r ⌝ }
+    ensures { λ r. ⌜ mostFacts + 9 ≡ length r ⌝ }
 {
     [0; CLAIM_ROOM]
 }

@@ -2,9 +2,9 @@
 ghost use mathlib.Core.List.{List};
 ghost use Prim.Native.Nat.{ℕ, _≤_};
 ghost use lib.ListN.{length};
-ghost use Rattle.files.specs.Table.{Table};
+ghost use Rattle.files.specs.Table.{Table, mostFacts};
 ghost use Rattle.rules.specs.Lent.{Stored};
-ghost use Rattle.claim_files.specs.ClaimFile.{mostFacts, claimAt, IsClaim, positionsOf};
+ghost use Rattle.claim_files.specs.ClaimFile.{claimAt, IsClaim, positionsOf};
 ghost use Rattle.claim_checking.specs.ClaimChecking.{OfPositions, OfTable, ClaimChecked};
 ghost use Rattle.claim_checking.specs.ClaimLent.{Lent, MarkedIn};
 use crate::answer::ClaimAnswer;

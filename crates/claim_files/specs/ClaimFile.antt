@@ -13,10 +13,6 @@ use Rattle.files.specs.File.{atEnd}
 use Rattle.claim_files.specs.declared.reading.Claimed.{Claimed}
 use Rattle.claim_files.specs.declared.reading.Claimed.the-variants as claimed
 
--- the largest W
-abbrev pub mostFacts : ℕ
-mostFacts = 2360320
-
 -- ---- reading, the first fault wins
 
 -- version 1; count 0..w

@@ -2,33 +2,33 @@
 // verdict and the number of bytes written; or, where the table is refused, the refusal, and no file is written. What a file is at fault for
 // is said on standard error.
 ghost use mathlib.Core.Path.{_≡_};
+ghost use Prim.Native.Nat.{_+_};
 ghost use lib.ListN.{length};
+ghost use Rattle.files.specs.Table.{mostFacts};
 use claim_report::written::bytes_line;
 use claim_report::written::first_line;
 use claim_report::written::verdict_line;
-use claim_writing::write::write_claim;
 use claim_writing::answer::WriteAnswer;
+use claim_writing::write::write_claim;
 use libc::STDERR_FILENO;
 use libc::STDOUT_FILENO;
+use store::plan::MOST_FACTS;
 use text::lines::ROOM;
 
-// W of the largest table that the limits allow. No table has more facts, so this budget is enough for any.
-const MOST: usize = 2360320;
-
 // Working memory for any table. The `ensures` gives its length, which lending it asks.
-fn memory() -> [u8; MOST]
-    ensures { λ r. ⌜ 2360320 ≡ length r ⌝ }
+fn memory() -> [u8; MOST_FACTS]
+    ensures { λ r. ⌜ mostFacts ≡ length r ⌝ }
 {
-    [0; MOST]
+    [0; MOST_FACTS]
 }
 
 // No claim is longer. The version takes a byte and the count at most four. A distance takes no more bytes than it is large, and the first position at
 // most one more; the distances make up the last position, which is below W. The claim of all positions is as long as this.
-const CLAIM_MOST: usize = MOST + 5;
+const CLAIM_MOST: usize = MOST_FACTS + 5;
 
 // Space for any claim.
 fn space() -> [u8; CLAIM_MOST]
-    ensures { λ r. ⌜ 2360325 ≡ length r ⌝ }
+    ensures { λ r. ⌜ mostFacts + 5 ≡ length r ⌝ }
 {
     [0; CLAIM_MOST]
 }
@@ -87,11 +87,11 @@ fn save(claim: &[u8]) -> bool {
     false
 }
 
-// Checks a table and writes its claim.
+// Checks a table and writes its claim. No table has more facts than the budget.
 fn run(table: &[u8]) {
     let mut mem = memory();
     let mut space = space();
-    let answer = write_claim(table, &mut mem, MOST, &mut space);
+    let answer = write_claim(table, &mut mem, MOST_FACTS, &mut space);
     match answer {
         WriteAnswer::Written {
             count: _,

@@ -7,7 +7,7 @@ use native.Mathlib.Omega.{arith}
 use lib.ListN.{length}
 use Rattle.files.specs.declared.header.Header.{Header}
 use Rattle.files.specs.declared.header.HeaderRead.{HeaderRead}
-use Rattle.files.specs.Table.{room, W}
+use Rattle.files.specs.Table.{room, W, mostFacts}
 use Rattle.files.specs.Header.{headerAt, headerReadOf}
 use Rattle.files.proofs.RoomLaws.{W-max}
 use Rattle.files.proofs.TableLaws.{table-got}
@@ -15,7 +15,7 @@ use Rattle.store.specs.Marking.{Cleared}
 use Rattle.verdict.specs.declared.search.Verdict.{Verdict}
 use Rattle.rules.specs.declared.answer.Answer.the-variants.{Done}
 use Rattle.rules.specs.Checking.{Checked}
-use Rattle.claim_files.specs.ClaimFile.{mostFacts, ClaimPut}
+use Rattle.claim_files.specs.ClaimFile.{ClaimPut}
 use Rattle.claim_files.specs.Marks.{positionsIn}
 use Rattle.claim_writing.specs.declared.answer.WriteAnswer.{WriteAnswer}
 use Rattle.claim_writing.specs.declared.answer.WriteAnswer.the-variants.{Written, NoSpace}

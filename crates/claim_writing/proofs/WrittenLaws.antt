@@ -12,7 +12,7 @@ use native.Mathlib.Omega.{arith}
 use lib.ListN.{length, take, drop}
 use lib.Seq.{sets, length-sets, sets-eq, take-at, length-take-le}
 use Rattle.numbers.specs.Reading.{got}
-use Rattle.files.specs.Table.{Table, Sound, W}
+use Rattle.files.specs.Table.{Table, Sound, W, mostFacts}
 use Rattle.files.proofs.RoomLaws.{W-max}
 use Rattle.files.proofs.TableLaws.{table-sound}
 use Rattle.model.specs.Rules.{Derives}
@@ -24,7 +24,7 @@ use Rattle.verdict.specs.declared.search.Verdict.{Verdict}
 use Rattle.verdict.specs.declared.search.Verdict.the-variants.{Safe, Possible}
 use Rattle.verdict.specs.Judged.{Answers}
 use Rattle.verdict.proofs.Answers.{possible-row, safe-none}
-use Rattle.claim_files.specs.ClaimFile.{mostFacts, AscendingFrom, Ascending, claimAt, claimBytes}
+use Rattle.claim_files.specs.ClaimFile.{AscendingFrom, Ascending, claimAt, claimBytes}
 use Rattle.claim_files.specs.Marks.{positionsIn}
 use Rattle.claim_files.proofs.RoundTrip.{claim-back, claim-bytes-inj}
 use Rattle.claim_files.proofs.ClaimIsModel.{written-counts}

@@ -1,7 +1,7 @@
 // Writing a claim: a table's bytes, working memory, a budget and a space in; an answer out, and the claim of the table's facts in the space.
 ghost use Prim.Native.Nat.{_≤_};
 ghost use lib.ListN.{length};
-ghost use Rattle.claim_files.specs.ClaimFile.{mostFacts};
+ghost use Rattle.files.specs.Table.{mostFacts};
 ghost use Rattle.claim_writing.specs.ClaimWriting.{ClaimWritten};
 ghost use Rattle.claim_writing.specs.WriteStages.{RoomOf, MarksWritten};
 use crate::answer::WriteAnswer;

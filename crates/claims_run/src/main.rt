@@ -1,12 +1,12 @@
 // Runs claim writing and the claim check on document 01's reference tables: the document's claims, claims with a fault at each place, claims that were
 // written. Every byte lent and every byte around is 0xAA before a call, and the bytes that a call changes are counted.
+use claim_checking::check::check_claim;
 use claim_report::checked::checked_line;
 use claim_report::written::bytes_line;
 use claim_report::written::first_line;
 use claim_report::written::verdict_line;
-use claim_checking::check::check_claim;
-use claim_writing::write::write_claim;
 use claim_writing::answer::WriteAnswer;
+use claim_writing::write::write_claim;
 use libc::STDOUT_FILENO;
 use text::lines::ROOM;
 

@@ -1,9 +1,9 @@
--- The room that a table's facts take: it fits the machine's numbers for any sizes that are bytes, and a sound table takes at most 2,360,320.
+-- The room that a table's facts take: it fits the machine's numbers for any sizes that are bytes, and a sound table takes at most `mostFacts`.
 -- Assumes nothing.
 use Prim.Native.Nat.{ℕ, _+_, _*_, _≤_}
 use native.Mathlib.Numerals.{bound}
 use native.Mathlib.Bridge.{le-by-compare, IsLe}
-use Rattle.files.specs.Table.{Table, Sound, room, W}
+use Rattle.files.specs.Table.{Table, Sound, room, W, mostFacts}
 
 -- ---- for sizes that are bytes, part by part
 
@@ -25,7 +25,7 @@ room-small a b h i = grw (bound, h, i) (le-by-compare _ _ tt)
 
 -- ---- for a sound table
 
-pub W-max : (T : Table) → Sound T → W T ≤ 2360320
+pub W-max : (T : Table) → Sound T → W T ≤ mostFacts
 unfolding W room IsLe
 W-max T s =
     let n = s .n .1 in

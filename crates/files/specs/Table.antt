@@ -171,3 +171,7 @@ room n G L F = n * (G * G) * (1 + L * L * (1 + F))
 unfoldable pub W : Table → ℕ
 unfolding room
 W T = room (T .n) (T .G) (T .L) (T .F)
+
+-- the largest W: "at most 2,360,320"
+abbrev pub mostFacts : ℕ
+mostFacts = 2360320

@@ -1,7 +1,7 @@
 -- Where the facts stand, with the sizes of a table worked out once (01, "Working memory and claims").
 use mathlib.Core.Path.{_≡_}
 use Prim.Native.Nat.{ℕ, _+_, _*_, _<_, _≤_}
-use Rattle.files.specs.Table.{Table, mostThreads, mostShared, mostLocals, mostFrames}
+use Rattle.files.specs.Table.{Table, mostThreads, mostShared, mostLocals, mostFrames, mostFacts}
 use Rattle.store.specs.declared.plan.Plan.{Plan}
 
 -- a pair of a shared and a local store is a number below k; p and q are where the P and the Q facts begin, and w is how many facts there are
@@ -18,7 +18,7 @@ pub record Planned (s : Plan) : Type 0 where
   pub l-max : s .l ≤ mostLocals
   pub f-max : s .f ≤ mostFrames
   pub k-max : s .k ≤ 256
-  pub w-max : s .w ≤ 2360320
+  pub w-max : s .w ≤ mostFacts
 
 -- the pair of g and l
 abbrev pub pair : Plan → ℕ → ℕ → ℕ

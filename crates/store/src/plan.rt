@@ -4,6 +4,9 @@ ghost use Prim.Native.Nat.{_+_, _*_, _<_, _≤_};
 ghost use Rattle.store.specs.Plans.{Planned, pair, pAt, pFrom, qFrom, gAt, sized};
 use files::columns::Sizes;
 
+// W of the largest table that the limits allow: no table has more facts.
+pub const MOST_FACTS: usize = 2360320;
+
 // n threads, g shared stores, l local stores, f frames; k pairs of a shared and a local store; p and q, where the P and the Q facts begin;
 // w facts in all.
 pub struct Plan {

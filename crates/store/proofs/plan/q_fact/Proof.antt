@@ -4,12 +4,13 @@ use mathlib.Core.Path.{_≡_, ap}
 use Prim.Native.Nat.{_+_, _*_, _≤_, _<_}
 use native.Mathlib.Omega.{arith}
 use borrow.Author.Needs.{needs}
+use Rattle.files.specs.Table.{mostFacts}
 use Rattle.store.specs.Plans.{qFrom}
 use Rattle.store.proofs.Places.{q-lt}
 use Rattle.store.proofs.plan.q_fact.Statement.{statement}
 use Rattle.store.proofs.plan.q_fact.Tie as tie
 
-below : (c : tie.Start) → let a = c .args in (qFrom (a .s) (a .t) (a .a) + a .f * a .s .k + a .c < a .s .w) × (a .s .w ≤ 2360320)
+below : (c : tie.Start) → let a = c .args in (qFrom (a .s) (a .t) (a .a) + a .f * a .s .k + a .c < a .s .w) × (a .s .w ≤ mostFacts)
 below c = let (h, t, a, f, d) = c .pre in (q-lt h t a f d, h .w-max)
 
 q-from-requires : tie.Need-q-from-requires
