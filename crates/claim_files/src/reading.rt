@@ -134,7 +134,7 @@ pub fn mark_claim(src: &[u8], w: usize, mem: &mut [u8])
     requires { ⌜ IsClaim w (now src) × (w ≤ mostFacts) × (room (now mem) ≡ w) ⌝ }
     ensures { λ _. ⌜ Marks w (positionsOf (claimAt w (now (src .entry)))) (now (mem .exit)) ⌝ }
 {
-    store::marks::clear(mem);
+    store::marks::clear_first(mem, w);
     let most = w as u32;
     match count(src, most) {
         Read::Value { value, next } => {

@@ -11,7 +11,7 @@ use lib.Dec.{eqb}
 use borrow.Author.Count.{below-more}
 use borrow.Author.Tests.{eqb-true, eqb-false}
 use lib.ListN.{getD, set, length, drop, replicate, length-set, length-replicate, getD-replicate}
-use lib.Seq.{getD-set-same, getD-set-other, ext-getD, take-at, drop-at}
+use lib.Seq.{getD-set-same, getD-set-other, ext-getD, take-at, take-all, drop-at}
 use Rattle.files.specs.Table.{Table}
 use Rattle.model.specs.Rules.{Fact}
 use Rattle.model.specs.Positions.{Fits, pos}
@@ -147,6 +147,11 @@ first-cleared part m w e c =
       zeros = take-at part (drop w m) w e ∙ clear-zeros part c ∙ ap (λ (k : ℕ). replicate k 0) e;
       rest = drop-at part (drop w m) w e;
     }
+
+-- a memory whose marks are all among the first w, which are taken off, is clear
+pub cleared-clear : {w : ℕ} {m : List ℕ} (m′ : List ℕ) → room m′ ≤ w → Cleared w m m′ → Clear m′
+cleared-clear {w} m′ l c p h =
+    ap (λ (k : List ℕ). mark k p) (sym (take-all w m′ l) ∙ c .zeros) ∙ getD-replicate w p 0 0 (omega arith)
 
 -- ---- the facts that a memory marks
 

@@ -5,13 +5,14 @@ use borrow.Author.Needs.{needs}
 use native.Mathlib.Omega.{arith}
 use mathlib.Core.Path.{sym, _∙_}
 use Rattle.numbers.proofs.ReadingLaws.{read-got, read-bad}
+use Rattle.store.proofs.MarkLaws.{cleared-clear}
 use Rattle.claim_files.proofs.ClaimLaws.{claim-listed, claim-not-bad}
 use Rattle.claim_files.proofs.ClaimMarks.{claim-marked}
 use Rattle.claim_files.proofs.reading.mark_claim.Statement.{statement}
 use Rattle.claim_files.proofs.reading.mark_claim.Tie as tie
 
-clear-requires : tie.Need-clear-requires
-clear-requires c κs = search needs
+clear-first-requires : tie.Need-clear-first-requires
+clear-first-requires c κs = omega arith
 
 cast-most : tie.Need-cast-most
 cast-most c = search needs
@@ -41,7 +42,8 @@ returns c =
     let called = marking .before .before .before .before .before in
     let was = read-got _ _ _ (sym (marking .before .before .before .value .given .1) ∙ called .count .ensures) in
     let clearing = called .before .before .before in
-    claim-marked _ (clearing .before .before .before .before .pre .0) was (clearing .clear .ensures) (omega arith) (marking .mark-positions .ensures)
+    let clear = cleared-clear _ (omega arith) (clearing .clear-first .ensures) in
+    claim-marked _ (clearing .before .before .before .before .pre .0) was clear (omega arith) (marking .mark-positions .ensures)
 
 same-length-2 : tie.Need-same-length-2
 same-length-2 c = search needs
@@ -56,7 +58,7 @@ pub mark-claim-spec : {M : Type 1} → statement M
 mark-claim-spec =
     tie.close
     (tie.spec
-    clear-requires
+    clear-first-requires
     cast-most
     count-requires
     enum-known-value
