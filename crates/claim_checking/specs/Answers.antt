@@ -1,9 +1,7 @@
 -- Document 01's number, origin and value of each answer of the claim check ("What comes back": "An answer has a number, an origin (1 for a
 -- claim's 1 to 6, else 0) and a value.").
-use Prim.Native.Nat.{ℕ}
-use Rattle.numbers.specs.declared.refusals.Refusal.{Refusal}
-use Rattle.numbers.specs.Refusals.{toldOf}
 use Rattle.rules.specs.declared.answer.Reply.{Reply}
+use Rattle.rules.specs.Answers.{plain, told}
 use Rattle.claim_checking.specs.declared.answer.ClaimAnswer.{ClaimAnswer}
 use Rattle.claim_checking.specs.declared.answer.ClaimAnswer.the-variants.{
   Accepted,
@@ -14,14 +12,6 @@ use Rattle.claim_checking.specs.declared.answer.ClaimAnswer.the-variants
   NotClosed,
   AllowsError,
 }
-
--- a number and a value, of origin 0
-abbrev pub plain : ℕ → ℕ → Reply
-plain number value = record { number = number; origin = 0; value = value }
-
--- 1 to 6, of the origin
-abbrev pub told : ℕ → Refusal → Reply
-told origin refusal = record { number = toldOf refusal .number; origin = origin; value = toldOf refusal .value }
 
 abbrev pub replyOf : ClaimAnswer → Reply
 replyOf (Accepted count) = plain 0 count

@@ -1,8 +1,10 @@
 // The answers of the claim check, and document 01's number, origin and value of each.
 ghost use mathlib.Core.Path.{_≡_};
-ghost use Rattle.claim_checking.specs.Answers.{plain, told, replyOf};
+ghost use Rattle.claim_checking.specs.Answers.{replyOf};
 use numbers::refusals::Refusal;
 use rules::answer::Reply;
+use rules::answer::plain_reply;
+use rules::answer::refusal_reply;
 
 // What a claim check comes back with.
 pub enum ClaimAnswer {
@@ -20,29 +22,6 @@ pub enum ClaimAnswer {
     NotClosed { position: usize },
     // The smallest row number of an error that the claim allows.
     AllowsError { row: usize },
-}
-
-// The reply that is no reader's refusal.
-fn plain_reply(number: u32, value: usize) -> Reply
-    ensures { λ r. ⌜ r ≡ plain number value ⌝ }
-{
-    Reply {
-        number,
-        origin: 0,
-        value,
-    }
-}
-
-// The reply that tells a reader's refusal.
-fn refusal_reply(origin: u32, refusal: Refusal) -> Reply
-    ensures { λ r. ⌜ r ≡ told origin refusal ⌝ }
-{
-    let says = numbers::refusals::tell(refusal);
-    Reply {
-        number: says.number,
-        origin,
-        value: says.value,
-    }
 }
 
 // The number, the origin and the value of an answer.

@@ -3,6 +3,8 @@ ghost use mathlib.Core.Path.{_≡_};
 ghost use Rattle.claim_writing.specs.Answers.{writeReplyOf};
 use numbers::refusals::Refusal;
 use rules::answer::Reply;
+use rules::answer::plain_reply;
+use rules::answer::refusal_reply;
 use verdict::search::Verdict;
 
 // What claim writing comes back with.
@@ -40,33 +42,10 @@ pub fn write_reply_of(answer: WriteAnswer) -> Reply
             count,
             verdict: _,
             bytes: _,
-        } => Reply {
-            number: 0,
-            origin: 0,
-            value: count,
-        },
-        WriteAnswer::Refused { refusal } => {
-            let told = numbers::refusals::tell(refusal);
-            Reply {
-                number: told.number,
-                origin: 0,
-                value: told.value,
-            }
-        }
-        WriteAnswer::Short { room } => Reply {
-            number: 7,
-            origin: 0,
-            value: room,
-        },
-        WriteAnswer::Over { budget } => Reply {
-            number: 8,
-            origin: 0,
-            value: budget,
-        },
-        WriteAnswer::NoSpace { needed } => Reply {
-            number: 12,
-            origin: 0,
-            value: needed,
-        },
+        } => plain_reply(0, count),
+        WriteAnswer::Refused { refusal } => refusal_reply(0, refusal),
+        WriteAnswer::Short { room } => plain_reply(7, room),
+        WriteAnswer::Over { budget } => plain_reply(8, budget),
+        WriteAnswer::NoSpace { needed } => plain_reply(12, needed),
     }
 }

@@ -29,9 +29,10 @@ use Rattle.model.proofs.Decide.Least.{exact?, exact-listed, exact-count, exact-
 use Rattle.model.proofs.Decide.Errors.{verdict?}
 use Rattle.model.proofs.Decide.Claims.{finding?}
 use Rattle.rules.specs.declared.answer.Reply.{Reply}
+use Rattle.rules.specs.Answers.{plain, told}
 use Rattle.claim_files.specs.ClaimFile.{claimAt}
 use Rattle.claim_files.proofs.Cases.{claims}
-use Rattle.claim_checking.specs.Answers.{plain, told, replyOf}
+use Rattle.claim_checking.specs.Answers.{replyOf}
 use Rattle.claim_checking.proofs.ClaimCases.{answerOf}
 
 -- ---- what a case says

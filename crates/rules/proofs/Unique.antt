@@ -25,6 +25,10 @@ use Rattle.rules.specs.declared.answer.Answer.{Answer}
 use Rattle.rules.specs.declared.answer.Answer.the-variants.{Done, Refused, Short, Over}
 use Rattle.rules.proofs.answer.reply_of.Reads as reply-of
 use Rattle.rules.proofs.answer.reply_of.Kinds as reply-of-kinds
+use Rattle.rules.proofs.answer.plain_reply.Reads as plain-reply
+use Rattle.rules.proofs.answer.plain_reply.Kinds as plain-reply-kinds
+use Rattle.rules.proofs.answer.refusal_reply.Reads as refusal-reply
+use Rattle.rules.proofs.answer.refusal_reply.Kinds as refusal-reply-kinds
 use Rattle.rules.proofs.check.check.Reads as check
 use Rattle.rules.proofs.check.check.Kinds as check-kinds
 use Rattle.rules.specs.Checking.{OfTable, short, over, done, Checked, refused, read}
@@ -100,3 +104,9 @@ check-fixes κs a x x′ s s′ = checked-same
 
 pub reply-of-fixes : Fixes reply-of-kinds.ps reply-of-kinds.r reply-of.Post
 reply-of-fixes κs a x x′ s s′ = same
+
+pub plain-reply-fixes : Fixes plain-reply-kinds.ps plain-reply-kinds.r plain-reply.Post
+plain-reply-fixes κs a x x′ s s′ = same
+
+pub refusal-reply-fixes : Fixes refusal-reply-kinds.ps refusal-reply-kinds.r refusal-reply.Post
+refusal-reply-fixes κs a x x′ s s′ = same

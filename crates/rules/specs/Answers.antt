@@ -1,11 +1,23 @@
--- Document 01's number, origin and value of each answer of the check ("What comes back"). The origin is 0: what is refused is the table.
+-- Document 01's number, origin and value of each answer of the check ("What comes back": "An answer has a number, an origin (1 for a claim's 1 to
+-- 6, else 0) and a value."); and the two kinds of reply that the answers on claims have as well.
+use Prim.Native.Nat.{ℕ}
+use Rattle.numbers.specs.declared.refusals.Refusal.{Refusal}
 use Rattle.numbers.specs.Refusals.{toldOf}
 use Rattle.rules.specs.declared.answer.Answer.{Answer}
 use Rattle.rules.specs.declared.answer.Answer.the-variants.{Done, Refused, Short, Over}
 use Rattle.rules.specs.declared.answer.Reply.{Reply}
 
+-- a number and a value, of origin 0
+abbrev pub plain : ℕ → ℕ → Reply
+plain number value = record { number = number; origin = 0; value = value }
+
+-- 1 to 6, of the origin
+abbrev pub told : ℕ → Refusal → Reply
+told origin refusal = record { number = toldOf refusal .number; origin = origin; value = toldOf refusal .value }
+
+-- what is refused is the table
 abbrev pub replyOf : Answer → Reply
-replyOf (Done count verdict) = record { number = 0; origin = 0; value = count }
-replyOf (Refused refusal) = record { number = toldOf refusal .number; origin = 0; value = toldOf refusal .value }
-replyOf (Short room) = record { number = 7; origin = 0; value = room }
-replyOf (Over budget) = record { number = 8; origin = 0; value = budget }
+replyOf (Done count verdict) = plain 0 count
+replyOf (Refused refusal) = told 0 refusal
+replyOf (Short room) = plain 7 room
+replyOf (Over budget) = plain 8 budget

@@ -1,6 +1,6 @@
 // The answers of the check, and document 01's number, origin and value of each.
 ghost use mathlib.Core.Path.{_≡_};
-ghost use Rattle.rules.specs.Answers.{replyOf};
+ghost use Rattle.rules.specs.Answers.{plain, told, replyOf};
 use numbers::refusals::Refusal;
 use verdict::search::Verdict;
 
@@ -23,33 +23,37 @@ pub struct Reply {
     pub value: usize,
 }
 
+// The reply that is no reader's refusal.
+pub fn plain_reply(number: u32, value: usize) -> Reply
+    ensures { λ r. ⌜ r ≡ plain number value ⌝ }
+{
+    Reply {
+        number,
+        origin: 0,
+        value,
+    }
+}
+
+// The reply that tells a reader's refusal.
+pub fn refusal_reply(origin: u32, refusal: Refusal) -> Reply
+    ensures { λ r. ⌜ r ≡ told origin refusal ⌝ }
+{
+    let says = numbers::refusals::tell(refusal);
+    Reply {
+        number: says.number,
+        origin,
+        value: says.value,
+    }
+}
+
 // The number, the origin and the value of an answer.
 pub fn reply_of(answer: Answer) -> Reply
     ensures { λ r. ⌜ r ≡ replyOf answer ⌝ }
 {
     match answer {
-        Answer::Done { count, verdict: _ } => Reply {
-            number: 0,
-            origin: 0,
-            value: count,
-        },
-        Answer::Refused { refusal } => {
-            let told = numbers::refusals::tell(refusal);
-            Reply {
-                number: told.number,
-                origin: 0,
-                value: told.value,
-            }
-        }
-        Answer::Short { room } => Reply {
-            number: 7,
-            origin: 0,
-            value: room,
-        },
-        Answer::Over { budget } => Reply {
-            number: 8,
-            origin: 0,
-            value: budget,
-        },
+        Answer::Done { count, verdict: _ } => plain_reply(0, count),
+        Answer::Refused { refusal } => refusal_reply(0, refusal),
+        Answer::Short { room } => plain_reply(7, room),
+        Answer::Over { budget } => plain_reply(8, budget),
     }
 }

@@ -1,8 +1,8 @@
--- `claim_checking::answer::refusal_reply` meets its contract: the number and the value are the refusal's.
+-- `rules::answer::refusal_reply` meets its contract: the number and the value are the refusal's.
 -- Assumes nothing.
 use borrow.Author.Needs.{needs}
-use Rattle.claim_checking.proofs.answer.refusal_reply.Statement.{statement}
-use Rattle.claim_checking.proofs.answer.refusal_reply.Tie as tie
+use Rattle.rules.proofs.answer.refusal_reply.Statement.{statement}
+use Rattle.rules.proofs.answer.refusal_reply.Tie as tie
 
 tell-requires : tie.Need-tell-requires
 tell-requires c κs = search needs
