@@ -5,7 +5,7 @@ use mathlib.Core.List.{List}
 use Prim.Native.Nat.{ℕ, zero, suc}
 use Rattle.rules.specs.declared.answer.Reply.{Reply}
 use Rattle.text.specs.Listing.{acceptedLine, claimRefusedLine}
-use Rattle.text.specs.Text.{Written}
+use Rattle.words.specs.Text.{Written}
 use Rattle.claim_report.specs.ClaimLines.{lineOfClaimReply}
 
 line-refused : (n v o : ℕ) → ¬ (n ≡ 0) → claimRefusedLine n v o ≡ lineOfClaimReply n v o

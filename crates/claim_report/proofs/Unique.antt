@@ -7,7 +7,7 @@ use contract.Lifetimes.{Lfts}
 use denote.Ref.{now}
 use denote.Triple.Clauses.{AtExit}
 use borrow.Fn.Kinds.{Dens, endedOf}
-use Rattle.text.proofs.Unique.{written-unique}
+use Rattle.words.proofs.Unique.{written-unique}
 use Rattle.claim_report.proofs.written.first_line.Reads as first-line
 use Rattle.claim_report.proofs.written.first_line.Kinds as first-line-kinds
 use Rattle.claim_report.proofs.written.verdict_line.Reads as verdict-line

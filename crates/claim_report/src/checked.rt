@@ -1,5 +1,5 @@
 // The line of an answer of the claim check.
-ghost use Rattle.text.specs.Text.{Written};
+ghost use Rattle.words.specs.Text.{Written};
 ghost use Rattle.claim_report.specs.ClaimLines.{checkedLine};
 use claim_checking::answer::ClaimAnswer;
 use claim_checking::answer::reply_of;

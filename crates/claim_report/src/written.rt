@@ -1,5 +1,5 @@
 // The lines of an answer of claim writing: the first for any answer, and two more where a claim is written.
-ghost use Rattle.text.specs.Text.{Written};
+ghost use Rattle.words.specs.Text.{Written};
 ghost use Rattle.report.specs.Answers.{threadsOf};
 ghost use Rattle.claim_report.specs.ClaimLines.{firstLine, verdictLine, bytesLineOf};
 use claim_writing::answer::WriteAnswer;

@@ -8,7 +8,7 @@ use Rattle.files.specs.declared.header.Header.{Header}
 use Rattle.files.specs.Header.{headerReadOf}
 use Rattle.rules.specs.declared.answer.Reply.{Reply}
 use Rattle.text.specs.Listing.{factsLine, refusedLine}
-use Rattle.text.specs.Text.{Written}
+use Rattle.words.specs.Text.{Written}
 use Rattle.report.specs.Answers.{threadsIn, lineOfReply}
 
 -- beside a refusal stands a header of zeros

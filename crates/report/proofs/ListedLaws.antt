@@ -22,7 +22,7 @@ use Rattle.files.proofs.TableLaws.{header-fits}
 use Rattle.store.specs.declared.plan.Plan.{Plan}
 use Rattle.store.specs.Marking.{room, NextMark}
 use Rattle.store.proofs.NextLaws.{next-found, next-end}
-use Rattle.text.specs.Text.{Counts, Written}
+use Rattle.words.specs.Text.{Counts, Written}
 use Rattle.text.specs.Listing.{factLine}
 use Rattle.text.specs.Facts.{planFact}
 use Rattle.report.specs.declared.facts.Next.{Next}

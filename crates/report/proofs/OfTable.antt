@@ -20,7 +20,7 @@ use Rattle.store.specs.declared.plan.Plan.{Plan}
 use Rattle.store.specs.Plans.{planOf}
 use Rattle.store.specs.Marking.{Has}
 use Rattle.store.proofs.PlanIsModel.{w-is}
-use Rattle.text.specs.Text.{Written}
+use Rattle.words.specs.Text.{Written}
 use Rattle.text.specs.Listing.{factLine}
 use Rattle.text.proofs.FactLaws.{fact-of-table}
 use Rattle.verdict.specs.declared.search.Verdict.{Verdict}

@@ -12,10 +12,10 @@ use borrow.Fn.Kinds.{Dens, endedOf}
 use Rattle.numbers.proofs.ReadingLaws.{never}
 use Rattle.model.proofs.Unique.{first-same}
 use Rattle.store.specs.declared.plan.Plan.{Plan}
-use Rattle.text.specs.Text.{Written}
+use Rattle.words.specs.Text.{Written}
 use Rattle.text.specs.Listing.{factLine}
 use Rattle.text.specs.Facts.{planFact}
-use Rattle.text.proofs.Unique.{written-unique}
+use Rattle.words.proofs.Unique.{written-unique}
 use Rattle.report.specs.declared.facts.Next.{Next}
 use Rattle.report.specs.declared.facts.Next.the-variants.{Line}
 use Rattle.report.specs.Listed.{NextIn, line, end, NextOf, read, refused}

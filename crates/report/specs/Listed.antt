@@ -11,7 +11,7 @@ use Rattle.model.specs.Claims.{First}
 use Rattle.store.specs.declared.plan.Plan.{Plan}
 use Rattle.store.specs.Plans.{sized}
 use Rattle.store.specs.Marking.{room, MarkFrom}
-use Rattle.text.specs.Text.{Written}
+use Rattle.words.specs.Text.{Written}
 use Rattle.text.specs.Listing.{factLine}
 use Rattle.text.specs.Facts.{planFact}
 use Rattle.report.specs.declared.facts.Next.{Next}

@@ -1,6 +1,6 @@
 // The lines of an answer of the check: the first for any answer, the second for one that has a verdict.
 ghost use mathlib.Core.Path.{_≡_};
-ghost use Rattle.text.specs.Text.{Written};
+ghost use Rattle.words.specs.Text.{Written};
 ghost use Rattle.report.specs.Answers.{threadsOf, firstLine, lineOfVerdict, verdictLine};
 use files::header::read_header;
 use rules::answer::Answer;

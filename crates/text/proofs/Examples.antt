@@ -3,7 +3,7 @@
 use mathlib.Core.Path.{_≡_, refl}
 use mathlib.Core.List.{[], _∷_, _++_}
 use Rattle.model.specs.Rules.{G, P, Q}
-use Rattle.text.specs.Text.{bytes, digits, decimal, fields, line}
+use Rattle.words.specs.Text.{bytes, digits, decimal, fields, line}
 use Rattle.text.specs.Listing.{factsLine, safeLine, possibleLine, refusedLine, factLine, bytesLine, acceptedLine, claimRefusedLine}
 
 -- the recursion table

@@ -2,13 +2,11 @@
 -- the prover reads it from the source (`Post`). Both results are the same text at the start of the same buffer.
 -- Assumes nothing.
 use mathlib.Core.Path.{_≡_, sym, _∙_}
-use mathlib.Core.List.{List}
-use Prim.Native.Nat.{ℕ}
 use contract.Lifetimes.{Lfts}
 use denote.Ref.{now}
 use denote.Triple.Clauses.{AtExit}
-use borrow.Fn.Kinds.{PK, RK, Out, Dens, resT, endedOf}
-use Rattle.text.specs.Text.{Written}
+use borrow.Fn.Kinds.{Dens, resT, endedOf}
+use Rattle.words.proofs.Unique.{Fixes, written-unique}
 use Rattle.text.proofs.facts.fact_at.Reads as fact-at
 use Rattle.text.proofs.facts.fact_at.Kinds as fact-at-kinds
 use Rattle.text.proofs.lines.facts_line.Reads as facts-line
@@ -29,16 +27,6 @@ use Rattle.text.proofs.lines.claim_refused_line.Reads as claim-refused-
 use Rattle.text.proofs.lines.claim_refused_line.Kinds as claim-refused-line-kinds
 
 -- ---- the lines
-
-pub written-unique : {text before after after′ : List ℕ} {r r′ : ℕ} → Written text before after r → Written text before after′ r′
-    → (r ≡ r′) × (after ≡ after′)
-written-unique w w′ = (w .count ∙ sym (w′ .count), w .bytes ∙ sym (w′ .bytes))
-
--- the claim of an `ensures` fixes the result and a buffer
-abbrev Fixes : (ps : List (PK 1)) (r : RK 1) → Out 1 ps r → ((κs : Lfts 1) → AtExit (endedOf 1 ps r) κs → List ℕ) → Type 0
-Fixes ps r Post buffer =
-    (κs : Lfts 1) (a : Dens κs ps) (x x′ : resT r κs .Denot) (s s′ : AtExit (endedOf 1 ps r) κs)
-    → Post κs a x s → Post κs a x′ s′ → (x ≡ x′) × (buffer κs s ≡ buffer κs s′)
 
 pub facts-line-fixes : Fixes facts-line-kinds.ps facts-line-kinds.r facts-line.Post (λ κs s. now (s .1 .0))
 facts-line-fixes κs a x x′ s s′ = written-unique

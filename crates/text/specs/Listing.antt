@@ -2,7 +2,7 @@
 use mathlib.Core.List.{List, [], _∷_}
 use Prim.Native.Nat.{ℕ}
 use Rattle.model.specs.Rules.{Fact, G, P, Q}
-use Rattle.text.specs.Text.{bytes, line}
+use Rattle.words.specs.Text.{bytes, line}
 
 -- "facts 5"
 abbrev pub factsLine : ℕ → List ℕ

@@ -1,5 +1,3 @@
 // The text of the listing (document 01, "Reference tables and results") and of the programs on claims: their lines, each written into a buffer that the caller lends.
-mod decimal;
 pub mod facts;
 pub mod lines;
-mod words;

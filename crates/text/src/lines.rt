@@ -1,42 +1,18 @@
 // The lines of the listing, and those of the programs on claims.
-ghost use Prim.Native.Nat.{_+_, _*_, _<_, _≤_, min};
+ghost use Prim.Native.Nat.{_<_, min};
 ghost use mathlib.Core.Path.{_≡_};
-ghost use lib.ListN.{length, take};
+ghost use lib.ListN.{take};
 ghost use Rattle.store.specs.Plans.{Planned};
-ghost use Rattle.text.specs.Text.{field, line, Written};
+ghost use Rattle.words.specs.Text.{Written};
 ghost use Rattle.text.specs.Listing.{factsLine, safeLine, possibleLine, refusedLine, factLine, bytesLine, acceptedLine, claimRefusedLine};
 ghost use Rattle.text.specs.Facts.{planFact};
-ghost use Rattle.text.specs.Putting.{Put, fieldRoom};
-use crate::decimal::put_decimal;
 use crate::facts::FactFields;
 use crate::facts::fact_at;
-use crate::words::put_byte;
-use crate::words::put_word;
 use store::plan::Plan;
+use words::line::put_line;
 
 // The room for a line. The longest has a word of 16 bytes, six numbers of at most 20 digits with a blank before each, and the line feed.
 pub const ROOM: usize = 160;
-
-// Puts a blank and v from `at` on, and gives the place past them.
-fn put_field(out: &mut [u8], at: usize, v: usize) -> usize
-    requires { ⌜ at + fieldRoom ≤ length (now out) ⌝ }
-    ensures { λ r. ⌜ Put (field v) at (now (out .entry)) (now (out .exit)) r × (r ≤ at + fieldRoom) ⌝ }
-{
-    let next = put_byte(out, at, b' ');
-    put_decimal(out, next, v)
-}
-
-// Writes a word, the numbers and a line feed.
-fn put_line(out: &mut [u8], word: &[u8], numbers: &[usize]) -> usize
-    requires { ⌜ length (now word) + fieldRoom * length (now numbers) + 1 ≤ length (now out) ⌝ }
-    ensures { λ r. ⌜ Written (line (now (word .entry)) (now (numbers .entry))) (now (out .entry)) (now (out .exit)) r ⌝ }
-{
-    let mut at = put_word(out, word);
-    for i in 0..numbers.len() {
-        at = put_field(out, at, numbers[i]);
-    }
-    put_byte(out, at, b'\n')
-}
 
 // The line of the number of facts.
 pub fn facts_line(count: usize, out: &mut [u8; ROOM]) -> usize

@@ -1,13 +1,13 @@
--- `text::lines::put_line` meets its contract. The loop's invariant: the first i numbers are put after the word.
+-- `words::line::put_line` meets its contract. The loop's invariant: the first i numbers are put after the word.
 -- Assumes nothing.
 use mathlib.Core.Path.{_≡_, refl}
 use Prim.Native.Nat.{_-_, _≤_}
 use native.Mathlib.Omega.{arith}
 use borrow.Author.Needs.{needs}
 use lib.ListN.{length}
-use Rattle.text.proofs.LineLaws.{PutFirst, numbers-none, numbers-more, line-whole}
-use Rattle.text.proofs.lines.put_line.Statement.{statement}
-use Rattle.text.proofs.lines.put_line.Tie as tie
+use Rattle.words.proofs.LineLaws.{PutFirst, numbers-none, numbers-more, line-whole}
+use Rattle.words.proofs.line.put_line.Statement.{statement}
+use Rattle.words.proofs.line.put_line.Tie as tie
 
 abbrev Inv-loop : tie.InvT-loop
 Inv-loop out₀ word numbers at₀ i₀ i-end out at i = (i ≤ length numbers) × (i-end ≡ length numbers) × PutFirst numbers i at₀ out₀ out at

@@ -1,4 +1,4 @@
--- `text::decimal::put_decimal` meets its contract: a number below 10 is its last digit, and any other is the digits of its tenth and the last.
+-- `words::decimal::put_decimal` meets its contract: a number below 10 is its last digit, and any other is the digits of its tenth and the last.
 -- The measure is the number.
 -- Assumes nothing.
 use Prim.Native.Nat.{ℕ, _<_}
@@ -6,14 +6,14 @@ use native.Mathlib.Omega.{arith}
 use borrow.Fn.Kinds.{In}
 use borrow.Fn.PlainCycle.{Measures, is, falls, and}
 use borrow.Author.Needs.{needs}
-use Rattle.text.proofs.DecimalLaws.{length-one, length-more}
-use Rattle.text.proofs.PutLaws.{put-decimal-one, put-decimal-more}
-use Rattle.text.proofs.decimal.put_decimal.Reads as put-decimal
-use Rattle.text.proofs.decimal.put_decimal.Kinds as put-decimal-kinds
-use Rattle.text.proofs.decimal.+put_decimal.Lts-put_decimal as lts
-use Rattle.text.proofs.words.put_byte.Reads as put-byte
-use Rattle.text.proofs.decimal.+put_decimal.{statement}
-use Rattle.text.proofs.decimal.+put_decimal.Tie.{close}
+use Rattle.words.proofs.DecimalLaws.{length-one, length-more}
+use Rattle.words.proofs.PutLaws.{put-decimal-one, put-decimal-more}
+use Rattle.words.proofs.decimal.put_decimal.Reads as put-decimal
+use Rattle.words.proofs.decimal.put_decimal.Kinds as put-decimal-kinds
+use Rattle.words.proofs.decimal.+put_decimal.Lts-put_decimal as lts
+use Rattle.words.proofs.bytes.put_byte.Reads as put-byte
+use Rattle.words.proofs.decimal.+put_decimal.{statement}
+use Rattle.words.proofs.decimal.+put_decimal.Tie.{close}
 
 abbrev μ-put-decimal : Measures 1 put-decimal-kinds.ps ℕ
 μ-put-decimal κs a = a .1 .1 .0

@@ -1,9 +1,9 @@
 // Numbers in decimal.
 ghost use Prim.Native.Nat.{_+_, _≤_};
 ghost use lib.ListN.{length};
-ghost use Rattle.text.specs.Text.{decimal};
-ghost use Rattle.text.specs.Putting.{Put};
-use crate::words::put_byte;
+ghost use Rattle.words.specs.Text.{decimal};
+ghost use Rattle.words.specs.Putting.{Put};
+use crate::bytes::put_byte;
 
 // Puts the digits of v from `at` on, and gives the place past them.
 pub fn put_decimal(out: &mut [u8], at: usize, v: usize) -> usize

@@ -9,9 +9,9 @@ use native.Mathlib.Numerals.{add-one}
 use native.Mathlib.Omega.{arith}
 use lib.ListN.{length, take, getD, set, length-append}
 use lib.Seq.{sets, length-take-le, take-suc, take-all}
-use Rattle.text.specs.Text.{digit, decimal, Written}
-use Rattle.text.specs.Putting.{Put}
-use Rattle.text.proofs.DecimalLaws.{decimal-one, decimal-more}
+use Rattle.words.specs.Text.{digit, decimal, Written}
+use Rattle.words.specs.Putting.{Put}
+use Rattle.words.proofs.DecimalLaws.{decimal-one, decimal-more}
 
 sets-append : (xs ys d : List ℕ) (at : ℕ) → sets d at (xs ++ ys) ≡ sets (sets d at xs) (at + length xs) ys
 sets-append [] ys d at = rw add-zero

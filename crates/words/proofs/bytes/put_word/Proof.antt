@@ -1,14 +1,14 @@
--- `text::words::put_word` meets its contract. The loop's invariant: the first i bytes of the word are put.
+-- `words::bytes::put_word` meets its contract. The loop's invariant: the first i bytes of the word are put.
 -- Assumes nothing.
 use mathlib.Core.Path.{_≡_, refl}
 use Prim.Native.Nat.{_-_, _≤_}
 use native.Mathlib.Omega.{arith}
 use borrow.Author.Needs.{needs}
 use lib.ListN.{length, take, length-set}
-use Rattle.text.specs.Putting.{Put}
-use Rattle.text.proofs.PutLaws.{put-none, word-more, word-all}
-use Rattle.text.proofs.words.put_word.Statement.{statement}
-use Rattle.text.proofs.words.put_word.Tie as tie
+use Rattle.words.specs.Putting.{Put}
+use Rattle.words.proofs.PutLaws.{put-none, word-more, word-all}
+use Rattle.words.proofs.bytes.put_word.Statement.{statement}
+use Rattle.words.proofs.bytes.put_word.Tie as tie
 
 abbrev Inv-loop : tie.InvT-loop
 Inv-loop out₀ word i₀ out i = (i ≤ length word) × (length out ≡ length out₀) × Put (take i word) 0 out₀ out i

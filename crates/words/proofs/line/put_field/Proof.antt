@@ -1,11 +1,11 @@
--- `text::lines::put_field` meets its contract: a blank and then the digits, of which there are at most 20.
+-- `words::line::put_field` meets its contract: a blank and then the digits, of which there are at most 20.
 -- Assumes nothing.
 use native.Mathlib.Omega.{arith}
 use borrow.Author.Needs.{needs}
-use Rattle.text.proofs.DecimalLaws.{field-room}
-use Rattle.text.proofs.PutLaws.{put-then}
-use Rattle.text.proofs.lines.put_field.Statement.{statement}
-use Rattle.text.proofs.lines.put_field.Tie as tie
+use Rattle.words.proofs.DecimalLaws.{field-room}
+use Rattle.words.proofs.PutLaws.{put-then}
+use Rattle.words.proofs.line.put_field.Statement.{statement}
+use Rattle.words.proofs.line.put_field.Tie as tie
 
 put-byte-requires : tie.Need-put-byte-requires
 put-byte-requires c κs = search needs

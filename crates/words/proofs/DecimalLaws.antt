@@ -8,8 +8,8 @@ use native.Mathlib.Decide.{decLt}
 use native.Mathlib.Omega.{arith}
 use borrow.Author.Tests.{lt-ltb, le-ltb}
 use lib.ListN.{length, length-append}
-use Rattle.text.specs.Text.{digit, digits, decimal, field}
-use Rattle.text.specs.Putting.{fieldRoom}
+use Rattle.words.specs.Text.{digit, digits, decimal, field}
+use Rattle.words.specs.Putting.{fieldRoom}
 
 module _ (v : ℕ) where
   digits-one : (most : ℕ) → v < 10 → digits (suc most) v ≡ digit v ∷ []

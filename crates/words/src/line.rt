@@ -1,0 +1,29 @@
+// A line: a word, numbers with a blank before each, and a line feed.
+ghost use Prim.Native.Nat.{_+_, _*_, _≤_};
+ghost use lib.ListN.{length};
+ghost use Rattle.words.specs.Text.{field, line, Written};
+ghost use Rattle.words.specs.Putting.{Put, fieldRoom};
+use crate::bytes::put_byte;
+use crate::bytes::put_word;
+use crate::decimal::put_decimal;
+
+// Puts a blank and v from `at` on, and gives the place past them.
+fn put_field(out: &mut [u8], at: usize, v: usize) -> usize
+    requires { ⌜ at + fieldRoom ≤ length (now out) ⌝ }
+    ensures { λ r. ⌜ Put (field v) at (now (out .entry)) (now (out .exit)) r × (r ≤ at + fieldRoom) ⌝ }
+{
+    let next = put_byte(out, at, b' ');
+    put_decimal(out, next, v)
+}
+
+// Writes a word, the numbers and a line feed.
+pub fn put_line(out: &mut [u8], word: &[u8], numbers: &[usize]) -> usize
+    requires { ⌜ length (now word) + fieldRoom * length (now numbers) + 1 ≤ length (now out) ⌝ }
+    ensures { λ r. ⌜ Written (line (now (word .entry)) (now (numbers .entry))) (now (out .entry)) (now (out .exit)) r ⌝ }
+{
+    let mut at = put_word(out, word);
+    for i in 0..numbers.len() {
+        at = put_field(out, at, numbers[i]);
+    }
+    put_byte(out, at, b'\n')
+}
