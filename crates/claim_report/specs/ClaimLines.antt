@@ -1,5 +1,5 @@
--- The lines that the programs on claims print of an answer. What they have in common with a listing's lines (document 01, "Reference tables and results")
--- reads as it does there.
+-- The lines that the programs on claims print of an answer. What they have in common with a listing's lines (document 01, "Reference tables and
+-- results") reads as it does there.
 use mathlib.Core.List.{List, []}
 use Prim.Native.Nat.{ℕ, zero, suc}
 use Rattle.text.specs.Listing.{bytesLine, acceptedLine, claimRefusedLine}

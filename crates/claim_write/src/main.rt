@@ -1,6 +1,6 @@
-// The program `claim_write TABLE CLAIM`: checks the table in a file and writes the claim of its facts to another file. Prints the number of facts, the
-// verdict and the number of bytes written; or, where the table is refused, the refusal, and no file is written. What a file is at fault for
-// is said on standard error.
+// The program `claim_write TABLE CLAIM`: checks the table in a file and writes the claim of its facts to another file. Prints the number of facts,
+// the verdict and the number of bytes written; or, where the table is refused, the refusal, and no file is written. What a file is at fault for is
+// said on standard error.
 ghost use mathlib.Core.Path.{_≡_};
 ghost use Prim.Native.Nat.{_+_};
 ghost use lib.ListN.{length};
@@ -50,8 +50,8 @@ fn open(i: usize) -> i32 {
     file
 }
 
-// Closes the file that argument i names, after `io::read_full`, and gives whether it was read. That stops alike at the end of a file and at a read that
-// fails; one read more tells them apart. Where it failed says so.
+// Closes the file that argument i names, after `io::read_full`, and gives whether it was read. That stops alike at the end of a file and at a read
+// that fails; one read more tells them apart. Where it failed says so.
 fn is_read(file: i32, i: usize) -> bool {
     let mut name = io::buffer();
     let length = os::arg(i, &mut name);

@@ -1,5 +1,5 @@
-// Runs claim writing and the claim check on document 01's reference tables: the document's claims, claims with a fault at each place, claims that were
-// written. Every byte lent and every byte around is 0xAA before a call, and the bytes that a call changes are counted.
+// Runs claim writing and the claim check on document 01's reference tables: the document's claims, claims with a fault at each place, claims that
+// were written. Every byte lent and every byte around is 0xAA before a call, and the bytes that a call changes are counted.
 use claim_checking::check::check_claim;
 use claim_report::checked::checked_line;
 use claim_report::written::bytes_line;
@@ -273,8 +273,8 @@ const MUTEX: [u8; 173] = *b"\x01\x02\x04\x07\x00\x07\x01\x00\x00\x20\
     \x01\x02\x04\x00\x05\x01\x03\x01\x02\x02\x01\x03\x03\x03\x04\x01\x03\x04\x01\x05\
     \x00\x00\x00";
 
-// The claim of no fact lacks thread 0's start fact. For the training table (W is 9,600) the others' follow: the claims of the start facts of thread 0,
-// of threads 0 and 1, and of all three, which is not closed.
+// The claim of no fact lacks thread 0's start fact. For the training table (W is 9,600) the others' follow: the claims of the start facts of thread
+// 0, of threads 0 and 1, and of all three, which is not closed.
 fn starts() {
     text(b"starts\n");
     let none = [1u8, 0];

@@ -33,8 +33,8 @@ fn next_in(s: Plan, mem: &[u8], from: usize, out: &mut [u8; ROOM]) -> Next
     Next::Line { length, next }
 }
 
-// Writes the line of the first fact at or past position `from` that is marked in a table's working memory. It is the end, and nothing is written, where
-// there is none, where the memory is shorter than W, and where the table's header is refused.
+// Writes the line of the first fact at or past position `from` that is marked in a table's working memory. It is the end, and nothing is written,
+// where there is none, where the memory is shorter than W, and where the table's header is refused.
 pub fn next_fact(table: &[u8], mem: &[u8], from: usize, out: &mut [u8; ROOM]) -> Next
     ensures { λ r. ⌜ NextOf (now (table .entry)) (now (mem .entry)) from (now (out .entry)) r (now (out .exit)) ⌝ }
 {

@@ -1,4 +1,4 @@
--- A mark in the lent memory. What stands above speaks of what is defined here; only here they are tied to model's mark.
+-- A mark in the lent memory. What stands above speaks of a memory by these definitions; only here they are tied to model's mark.
 use mathlib.Core.Path.{_≡_}
 use mathlib.Core.Bool.{Bool, true, false}
 use mathlib.Core.List.{List}

@@ -1,5 +1,5 @@
--- `claim_checking::check::check_facts` meets its contract: the claim is marked, so what is found on the memory is found of the claimed facts; the memory
--- is left so, or cleared.
+-- `claim_checking::check::check_facts` meets its contract: the claim is marked, so what is found on the memory is found of the claimed facts; the
+-- memory is left so, or cleared.
 -- Assumes nothing.
 use Prim.Native.Nat.{_≤_}
 use native.Mathlib.Omega.{arith}

@@ -1,4 +1,5 @@
--- `claim_checking::check::check_stored` meets its contract: the room is the table's W, and the claim's reader refuses or gives the claim that is checked.
+-- `claim_checking::check::check_stored` meets its contract: the room is the table's W, and the claim's reader refuses or gives the claim that is
+-- checked.
 -- Assumes nothing.
 use mathlib.Core.Path.{_≡_, sym, _∙_}
 use native.Mathlib.Omega.{arith}

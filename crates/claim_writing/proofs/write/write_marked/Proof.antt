@@ -1,4 +1,5 @@
--- `claim_writing::write::write_marked` meets its contract: the claim's width is compared with the space, and then the marks are cleared or the claim put.
+-- `claim_writing::write::write_marked` meets its contract: the claim's width is compared with the space, and then the marks are cleared or the
+-- claim put.
 -- Assumes nothing.
 use borrow.Author.Needs.{needs}
 use native.Mathlib.Omega.{arith}
