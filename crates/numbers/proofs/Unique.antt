@@ -14,16 +14,12 @@ use Rattle.numbers.specs.declared.refusals.Refusal.{Refusal}
 use Rattle.numbers.specs.declared.refusals.Told.{Told}
 use Rattle.numbers.specs.declared.reading.Read.{Read}
 use Rattle.numbers.specs.Refusals.{toldOf}
-use Rattle.numbers.specs.Reading.{numberAt, fieldAt, versionAt, readOf}
+use Rattle.numbers.specs.Reading.{numberAt, readOf}
 use Rattle.numbers.specs.Writing.{bytesOf, putNext, putInto}
 use Rattle.numbers.proofs.refusals.tell.Reads as tell
 use Rattle.numbers.proofs.refusals.tell.Kinds as tell-kinds
 use Rattle.numbers.proofs.reading.number.Reads as number
 use Rattle.numbers.proofs.reading.number.Kinds as number-kinds
-use Rattle.numbers.proofs.reading.field.Reads as field
-use Rattle.numbers.proofs.reading.field.Kinds as field-kinds
-use Rattle.numbers.proofs.reading.version.Reads as version
-use Rattle.numbers.proofs.reading.version.Kinds as version-kinds
 use Rattle.numbers.proofs.writing.width.Reads as width
 use Rattle.numbers.proofs.writing.width.Kinds as width-kinds
 use Rattle.numbers.proofs.writing.put_number.Reads as put-number
@@ -40,13 +36,6 @@ tell-unique refusal r r′ = same
 
 pub number-unique : (src : List ℕ) (at : ℕ) (r r′ : Read) → r ≡ readOf (numberAt src at) → r′ ≡ readOf (numberAt src at) → r ≡ r′
 number-unique src at r r′ = same
-
-pub field-unique : (src : List ℕ) (at low end : ℕ) (r r′ : Read)
-    → r ≡ readOf (fieldAt src at low end) → r′ ≡ readOf (fieldAt src at low end) → r ≡ r′
-field-unique src at low end r r′ = same
-
-pub version-unique : (src : List ℕ) (r r′ : Read) → r ≡ readOf (versionAt src) → r′ ≡ readOf (versionAt src) → r ≡ r′
-version-unique src r r′ = same
 
 pub width-unique : (value r r′ : ℕ) → r ≡ length (bytesOf value) → r′ ≡ length (bytesOf value) → r ≡ r′
 width-unique value r r′ = same
@@ -71,12 +60,6 @@ tell-fixes κs a x x′ s s′ = tell-unique (a .0) x x′
 
 pub number-fixes : Fixes number-kinds.ps number-kinds.r number.Post
 number-fixes κs a x x′ s s′ = number-unique (now (a .0)) (a .1 .0) x x′
-
-pub field-fixes : Fixes field-kinds.ps field-kinds.r field.Post
-field-fixes κs a x x′ s s′ = field-unique (now (a .0)) (a .1 .0) (a .1 .1 .0) (a .1 .1 .1 .0) x x′
-
-pub version-fixes : Fixes version-kinds.ps version-kinds.r version.Post
-version-fixes κs a x x′ s s′ = version-unique (now (a .0)) x x′
 
 pub width-fixes : Fixes width-kinds.ps width-kinds.r width.Post
 width-fixes κs a x x′ s s′ = width-unique (a .0) x x′

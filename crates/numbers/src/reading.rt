@@ -1,7 +1,7 @@
 // Reading numbers. A reader moves on only past whole numbers; the first fault wins.
 ghost use mathlib.Core.Path.{_≡_};
 ghost use Prim.Native.Nat.{_≤_};
-ghost use Rattle.numbers.specs.Reading.{groupsAt, numberAt, fieldAt, versionAt, readOf};
+ghost use Rattle.numbers.specs.Reading.{groupsAt, numberAt, readOf};
 use crate::refusals::Refusal;
 
 // The groups of seven bits that stand at a place: their number with the place past them, or why there is none.
@@ -60,44 +60,5 @@ pub fn number(src: &[u8], at: usize) -> Read
         Grouped::Long => Read::Refused {
             refusal: Refusal::Long { at },
         },
-    }
-}
-
-// The number at `at`, which is to be at least `low` and below `end`.
-pub fn field(src: &[u8], at: usize, low: u32, end: u32) -> Read
-    ensures { λ r. ⌜ r ≡ readOf (fieldAt (now (src .entry)) at low end) ⌝ }
-{
-    match number(src, at) {
-        Read::Value { value, next } => {
-            if value < low {
-                return Read::Refused {
-                    refusal: Refusal::Outside { at },
-                };
-            }
-            if end <= value {
-                return Read::Refused {
-                    refusal: Refusal::Outside { at },
-                };
-            }
-            Read::Value { value, next }
-        }
-        Read::Refused { refusal } => Read::Refused { refusal },
-    }
-}
-
-// The version that a file begins with, which is to be 1.
-pub fn version(src: &[u8]) -> Read
-    ensures { λ r. ⌜ r ≡ readOf (versionAt (now (src .entry))) ⌝ }
-{
-    match number(src, 0) {
-        Read::Value { value, next } => {
-            if value == 1 {
-                return Read::Value { value, next };
-            }
-            Read::Refused {
-                refusal: Refusal::Version,
-            }
-        }
-        Read::Refused { refusal } => Read::Refused { refusal },
     }
 }
