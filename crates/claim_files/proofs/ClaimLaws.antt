@@ -1,5 +1,6 @@
 -- Laws of a claim that is read, and what the code's answers tell of it.
---     rest-refused, -more, -read       what `restAt` gives, by the end of its positions
+--     rest-listed                      where the positions were read to the end of the file, they were read
+--     rest-read, -refused              what `restAt` gives, by the end of the file after its positions
 --     claim-counted, -uncounted        what `claimAt` gives, by its count
 --     Read, claim-got                  where a claim was read, its count was, and its positions up to the end of the file
 --     claimed-read                     what the answer of `read_claim` tells
@@ -7,48 +8,54 @@
 use mathlib.Core.Path.{_≡_, refl, sym, ap, _∙_}
 use mathlib.Core.Bool.{Bool, true, false}
 use mathlib.Core.List.{List}
-use Prim.Native.Nat.{ℕ, _≤_, _<_}
+use Prim.Native.Nat.{ℕ, _≤_}
 use native.Mathlib.Omega.{arith}
-use borrow.Author.Tests.{lt-ltb, le-ltb, ltb-false}
+use borrow.Author.Tests.{ltb-false}
 use lib.Dec.{ltb}
 use lib.ListN.{length}
 use Rattle.numbers.specs.declared.refusals.Refusal.{Refusal}
 use Rattle.numbers.specs.declared.refusals.Refusal.the-variants.{After}
 use Rattle.numbers.specs.Reading.{Out, got, bad, pick}
 use Rattle.numbers.proofs.ReadingLaws.{never, parts}
-use Rattle.files.specs.declared.rows.End.the-variants.{Past, Refused}
-use Rattle.files.specs.Stages.{endOf}
+use Rattle.reader.specs.declared.ends.End.{End}
+use Rattle.reader.specs.declared.ends.End.the-variants.{Past, Refused}
+use Rattle.reader.specs.Ends.{endOf, endAfter}
+use Rattle.reader.proofs.EndLaws.{end-past, end-refused, end-after}
 use Rattle.claim_files.specs.declared.reading.Claimed.the-variants as claimed
-use Rattle.claim_files.specs.ClaimFile.{countAt, positionsAt, restAt, claimAt, IsClaim, claimedOf, positionsOf}
+use Rattle.claim_files.specs.ClaimFile.{countAt, positionsAt, restAt, claimAt, IsClaim, claimedOf}
 use Rattle.claim_files.proofs.PositionLaws.{positions-count}
 
--- ---- what an end tells
+-- ---- what is known of an end
 
-end-past : (o : Out (List ℕ)) (n : ℕ) → Past n ≡ endOf o → o ≡ got (positionsOf o) n
-end-past (got ps m) n e = let i : m ≡ n = cc in rw i
-end-past (bad r) n e = never (cc)
-
-end-refused : (o : Out (List ℕ)) (r : Refusal) → Refused r ≡ endOf o → o ≡ bad r
-end-refused (got ps m) r e = never (cc)
-end-refused (bad q) r e = cc
+ended : (s ps qs : List ℕ) (p n : ℕ) (t : Bool) → ltb p (length s) ≡ t → pick t (bad (After p)) (got ps p) ≡ got qs n
+    → (got ps p ≡ got qs n) × (length s ≤ n)
+ended s ps qs p n true e h = never (cc)
+ended s ps qs p n false e h = let i : p ≡ n = cc in (h, omega (arith, ltb-false p (length s) e))
 
 -- ---- the positions and the end of the file
 
 module _ (w k : ℕ) (s : List ℕ) (at : ℕ) where
-  pub rest-refused : {r : Refusal} → Refused r ≡ endOf (positionsAt w k 0 0 s at) → claimed.Refused r ≡ claimedOf (restAt w k s at)
+  -- where the positions were read to the end, they were read
+  pub rest-listed : {ps : List ℕ} {n : ℕ} → restAt w k s at ≡ got ps n → (positionsAt w k 0 0 s at ≡ got ps n) × (length s ≤ n)
   unfolding restAt
-  rest-refused {r} e = rw (end-refused (positionsAt w k 0 0 s at) r e)
+  rest-listed {ps} {n} e =
+      let l = parts (positionsAt w k 0 0 s at) _ ps n e in
+      let z = ended s (l .first) ps (l .place) n _ refl (l .rest) in
+      (l .was ∙ z .0, z .1)
 
-  module _ {n : ℕ} (e : Past n ≡ endOf (positionsAt w k 0 0 s at)) where
-    pub rest-more : n < length s → claimed.Refused (After n) ≡ claimedOf (restAt w k s at)
+  -- the end of the file after the positions, as the code asks for it
+  module _ {p e : End} (listed : p ≡ endOf (positionsAt w k 0 0 s at)) (ends : e ≡ endAfter p s) where
+    rest-end : e ≡ endOf (restAt w k s at)
     unfolding restAt
-    rest-more h = rw (end-past (positionsAt w k 0 0 s at) n e) (simp (lt-ltb _ _ h))
+    rest-end = ends ∙ rw listed (end-after s (positionsAt w k 0 0 s at) (λ (ps : List ℕ). ps))
 
-    pub rest-read : length s ≤ n → claimed.Read k ≡ claimedOf (restAt w k s at)
-    unfolding restAt
-    rest-read h =
-        let q = end-past (positionsAt w k 0 0 s at) n e in
-        rw q (simp (le-ltb _ _ h) (ap (λ (m : ℕ). claimed.Read m) (sym (positions-count w s k 0 0 at _ n q))))
+    pub rest-read : {n : ℕ} → e ≡ Past n → claimed.Read k ≡ claimedOf (restAt w k s at)
+    rest-read {n} q =
+        let v = end-past (restAt w k s at) n (sym rest-end ∙ q) in
+        rw (v .1) (ap (λ (m : ℕ). claimed.Read m) (sym (positions-count w s k 0 0 at (v .0) n (rest-listed (v .1) .0))))
+
+    pub rest-refused : {r : Refusal} → e ≡ Refused r → claimed.Refused r ≡ claimedOf (restAt w k s at)
+    rest-refused {r} q = rw (end-refused (restAt w k s at) r (sym rest-end ∙ q))
 
 -- ---- a claim, by its count
 
@@ -63,11 +70,6 @@ module _ (w : ℕ) (s : List ℕ) where
 
 -- ---- what is known of a claim that was read
 
-ended : (s ps qs : List ℕ) (p n : ℕ) (t : Bool) → ltb p (length s) ≡ t → pick t (bad (After p)) (got ps p) ≡ got qs n
-    → (got ps p ≡ got qs n) × (length s ≤ n)
-ended s ps qs p n true e h = never (cc)
-ended s ps qs p n false e h = let i : p ≡ n = cc in (h, omega (arith, ltb-false p (length s) e))
-
 -- its count k, the place `at` past that, and its positions from there to the end of the file
 pub record Read (w : ℕ) (s ps : List ℕ) (n : ℕ) : Type 0 where
   pub k : ℕ
@@ -77,12 +79,11 @@ pub record Read (w : ℕ) (s ps : List ℕ) (n : ℕ) : Type 0 where
   pub end : length s ≤ n
 
 pub claim-got : (w : ℕ) (s ps : List ℕ) (n : ℕ) → claimAt w s ≡ got ps n → Read w s ps n
-unfolding claimAt restAt
+unfolding claimAt
 claim-got w s ps n e =
     let c = parts (countAt w s) _ ps n e in
-    let l = parts (positionsAt w (c .first) 0 0 s (c .place)) _ ps n (c .rest) in
-    let z = ended s (l .first) ps (l .place) n _ refl (l .rest) in
-    record { k = c .first; at = c .place; counted = c .was; listed = l .was ∙ z .0; end = z .1 }
+    let l = rest-listed w (c .first) s (c .place) (c .rest) in
+    record { k = c .first; at = c .place; counted = c .was; listed = l .0; end = l .1 }
 
 module _ {w : ℕ} {s : List ℕ} (is : IsClaim w s) where
   -- the positions of a claim, from the place past its count

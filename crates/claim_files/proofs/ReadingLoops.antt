@@ -10,9 +10,9 @@ use native.Mathlib.Nat.{sub-zero}
 use Rattle.numbers.specs.declared.refusals.Refusal.{Refusal}
 use Rattle.numbers.specs.Reading.{Out, got, bad}
 use Rattle.numbers.proofs.ReadingLaws.{never}
-use Rattle.files.specs.declared.rows.End.the-variants.{Past, Refused}
+use Rattle.reader.specs.declared.ends.End.the-variants.{Past, Refused}
 use Rattle.files.specs.Rows.{push}
-use Rattle.files.specs.Stages.{endOf}
+use Rattle.reader.specs.Ends.{endOf}
 use Rattle.store.specs.Marking.{room, marked}
 use Rattle.store.proofs.MarkLaws.{put-room}
 use Rattle.claim_files.specs.ClaimFile.{positionAt, positionsAt, positionsOf}

@@ -4,15 +4,18 @@ ghost use mathlib.Core.Path.{_≡_};
 ghost use mathlib.Core.List.{List};
 ghost use Prim.Native.Nat.{ℕ, _≤_};
 ghost use Rattle.numbers.specs.Reading.{got, readOf};
+ghost use Rattle.reader.specs.Ends.{endOf};
 ghost use Rattle.files.specs.Table.{mostFacts};
-ghost use Rattle.files.specs.Stages.{endOf};
 ghost use Rattle.store.specs.Marking.{room};
 ghost use Rattle.claim_files.specs.ClaimFile.{countAt, positionAt, positionsAt, restAt, claimAt, IsClaim, claimedOf, positionsOf};
 ghost use Rattle.claim_files.specs.Marks.{Marks};
 ghost use Rattle.claim_files.specs.Stages.{markedAll};
-use files::rows::End;
 use numbers::reading::Read;
 use numbers::refusals::Refusal;
+use reader::ends::End;
+use reader::ends::end_after;
+use reader::fields::field;
+use reader::fields::version;
 
 // How far a position is at least from the one before.
 const LEAST: u32 = 1;
@@ -28,8 +31,8 @@ fn count(src: &[u8], w: u32) -> Read
     requires { ⌜ w ≤ mostFacts ⌝ }
     ensures { λ r. ⌜ r ≡ readOf (countAt w (now (src .entry))) ⌝ }
 {
-    match numbers::reading::version(src) {
-        Read::Value { value: _, next } => numbers::reading::field(src, next, 0, w + 1),
+    match version(src) {
+        Read::Value { value: _, next } => field(src, next, 0, w + 1),
         Read::Refused { refusal } => Read::Refused { refusal },
     }
 }
@@ -39,7 +42,7 @@ fn position(src: &[u8], at: usize, least: u32, last: u32, w: u32) -> Read
     requires { ⌜ last ≤ w ⌝ }
     ensures { λ r. ⌜ r ≡ readOf (positionAt w least last (now (src .entry)) at) ⌝ }
 {
-    match numbers::reading::field(src, at, least, w - last) {
+    match field(src, at, least, w - last) {
         Read::Value { value, next } => Read::Value {
             value: last + value,
             next,
@@ -76,17 +79,10 @@ fn positions(src: &[u8], at: usize, count: u32, w: u32) -> End
 fn rest(src: &[u8], at: usize, count: u32, w: u32) -> Claimed
     ensures { λ r. ⌜ r ≡ claimedOf (restAt w count (now (src .entry)) at) ⌝ }
 {
-    match positions(src, at, count, w) {
-        End::Past { next } => {
-            if next < src.len() {
-                return Claimed::Refused {
-                    refusal: Refusal::After { at: next },
-                };
-            }
-            Claimed::Read {
-                count: count as usize,
-            }
-        }
+    match end_after(src, positions(src, at, count, w)) {
+        End::Past { next: _ } => Claimed::Read {
+            count: count as usize,
+        },
         End::Refused { refusal } => Claimed::Refused { refusal },
     }
 }

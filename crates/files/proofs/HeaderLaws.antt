@@ -2,7 +2,7 @@
 --     header-read                 what the three rows after the version make is what the definition says
 --     made-past, made-refused     and it is made by where the last row ends
 -- Assumes nothing.
-use mathlib.Core.Path.{_≡_, refl, sym, ap, _∙_}
+use mathlib.Core.Path.{_≡_, refl}
 use mathlib.Core.List.{List}
 use Prim.Native.Nat.{ℕ}
 use Rattle.numbers.specs.declared.refusals.Refusal.{Refusal}
@@ -11,13 +11,14 @@ use Rattle.files.specs.declared.columns.Column.{Column}
 use Rattle.files.specs.declared.columns.Sizes.{Sizes}
 use Rattle.files.specs.declared.header.Header.{Header}
 use Rattle.files.specs.declared.header.HeaderRead.{HeaderRead}
-use Rattle.files.specs.declared.rows.End.{End}
-use Rattle.files.specs.declared.rows.End.the-variants.{Past, Refused}
+use Rattle.reader.specs.declared.ends.End.{End}
+use Rattle.reader.specs.declared.ends.End.the-variants.{Past, Refused}
 use Rattle.files.specs.declared.rows.RowRead.{RowRead}
 use Rattle.files.specs.Columns.{sizeColumns, placeColumns, localColumns}
 use Rattle.files.specs.Rows.{rowAt}
 use Rattle.files.specs.Header.{sizesOf, headerOf, headerAt, noHeader, headerReadOf}
-use Rattle.files.specs.Stages.{endOf, after, rowOf}
+use Rattle.files.specs.Stages.{rowOf}
+use Rattle.reader.specs.Ends.{endOf, after}
 
 -- the answer of three rows' cells and the last one's end
 abbrev pub made : End → List ℕ → List ℕ → List ℕ → HeaderRead

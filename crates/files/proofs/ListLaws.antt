@@ -4,27 +4,25 @@
 --     list-counted, -uncounted       what `listAt` gives, by its count
 --     Listing, list-…                i rows are read and stand in memory, and the rest of the list stands from p on
 -- Assumes nothing.
-use mathlib.Core.Path.{_≡_, refl, sym, ap, subst, _∙_}
+use mathlib.Core.Path.{_≡_, refl, sym, ap, _∙_}
 use mathlib.Core.List.{List, [], _∷_, _++_, append-nil, append-assoc}
 use mathlib.Core.Bool.{Bool, true, false}
 use Prim.Native.Nat.{ℕ, zero, suc, _+_, _-_, _*_, _≤_, _<_}
 use native.Mathlib.Omega.{arith}
-use native.Mathlib.Numerals.{add-one}
 use native.Mathlib.Nat.{sub-zero, zero-add}
 use lib.ListN.{length, length-append}
 use lib.Seq.{sets, length-sets}
 use Rattle.numbers.specs.declared.refusals.Refusal.{Refusal}
 use Rattle.numbers.specs.declared.refusals.Refusal.the-variants.{NotAbove}
-use Rattle.numbers.specs.Reading.{Out, got, bad, then, pick, fieldAt}
-use Rattle.numbers.proofs.ReadingLaws.{never, Parts, parts}
+use Rattle.numbers.specs.Reading.{got, bad, pick, fieldAt}
+use Rattle.numbers.proofs.ReadingLaws.{never, parts}
 use Rattle.files.specs.declared.columns.Column.{Column}
-use Rattle.files.specs.declared.rows.End.{End}
-use Rattle.files.specs.declared.rows.End.the-variants.{Past, Refused}
+use Rattle.reader.specs.declared.ends.End.the-variants.{Past}
 use Rattle.files.specs.declared.rows.ListRead.{ListRead}
 use Rattle.files.specs.Table.{below}
 use Rattle.files.specs.File.{flat}
 use Rattle.files.specs.Rows.{push, rowAt, nextRow, rowsAt, listAt}
-use Rattle.files.specs.Stages.{oldOf, listOf, ListKept, listAfter}
+use Rattle.files.specs.Stages.{oldOf, listOf, ListKept}
 use Rattle.files.proofs.RowMemory.{sets-append}
 use Rattle.files.proofs.RowLaws.{onward, onward-none, onward-push}
 use Rattle.files.proofs.RowFits.{row-long}

@@ -2,13 +2,13 @@
 --     row-fits    a row that was read fits its columns
 --     row-long    and has a cell for each
 -- Assumes nothing.
-use mathlib.Core.Path.{_≡_, refl, sym, ap, subst, _∙_}
+use mathlib.Core.Path.{_≡_, refl, sym, ap, subst}
 use mathlib.Core.List.{List, [], _∷_}
 use Prim.Native.Nat.{ℕ, suc, _+_, _≤_, _<_}
 use native.Mathlib.Omega.{arith}
 use lib.ListN.{length}
-use Rattle.numbers.specs.Reading.{Out, got, bad, then}
-use Rattle.numbers.proofs.ReadingLaws.{never, Parts, parts}
+use Rattle.numbers.specs.Reading.{Out, got, bad}
+use Rattle.numbers.proofs.ReadingLaws.{never, parts}
 use Rattle.numbers.proofs.FieldLaws.{field-got}
 use Rattle.files.specs.declared.columns.Column.{Column}
 use Rattle.files.specs.declared.columns.Column.the-variants.{Within, Below, Absent}

@@ -3,24 +3,24 @@
 --     step-back, …, error-back          the cells of a row's record are the row
 --     cells-back, rows-sound            so are the cells of a list's records, and the records are sound rows
 -- Assumes nothing.
-use mathlib.Core.Path.{_≡_, refl, sym, ap, ap₂, subst, subst⁻¹, _∙_}
+use mathlib.Core.Path.{_≡_, refl, sym, ap, ap₂, subst, subst⁻¹}
 use mathlib.Core.List.{List, [], _∷_, map, List·Memᴰ, List·Memᴰ·head, List·Memᴰ·tail}
 use mathlib.Core.Bool.{true}
-use Prim.Native.Nat.{ℕ, zero, suc, _+_, _≤_, _<_}
+use Prim.Native.Nat.{ℕ, zero, suc, _+_, _≤_}
 use native.Mathlib.Omega.{arith}
-use borrow.Author.Tests.{lt-ltb, le-ltb}
-use lib.ListN.{length, getD, take, drop}
-use Rattle.numbers.specs.Reading.{Out, got, bad, fieldAt}
-use Rattle.numbers.proofs.ReadingLaws.{Parts, parts}
+use borrow.Author.Tests.{le-ltb}
+use lib.ListN.{length, getD, take}
+use Rattle.numbers.specs.Reading.{got, fieldAt}
+use Rattle.numbers.proofs.ReadingLaws.{parts}
 use Rattle.numbers.proofs.FieldLaws.{field-got}
 use Rattle.files.specs.declared.columns.Column.{Column}
 use Rattle.files.specs.declared.columns.Sizes.{Sizes}
-use Rattle.files.specs.Table.{below, Above, none, row, Ascending, Rows, stepCells, pushCells, popCells, errorCells}
+use Rattle.files.specs.Table.{below, Above, none, row, Rows, stepCells, pushCells, popCells, errorCells}
 use Rattle.files.specs.Columns.{ofThread, stepColumns, pushColumns, popColumns, errorColumns}
-use Rattle.files.specs.Rows.{rowAt, nextRow, rowsAt, listAt}
+use Rattle.files.specs.Rows.{nextRow, rowsAt, listAt}
 use Rattle.files.specs.File.{stepOf, pushOf, popOf, errorOf}
 use Rattle.files.proofs.RowMemory.{five-cells}
-use Rattle.files.proofs.RowFits.{CellFits, RowFits, cell, none as end, row-fits, fits-long, Pushed, pushed}
+use Rattle.files.proofs.RowFits.{CellFits, RowFits, cell, none as end, row-fits, fits-long, pushed}
 use Rattle.files.proofs.ListLaws.{next-got}
 
 -- ---- a list that was read

@@ -1,24 +1,16 @@
 -- What the answers of the reader's stages tell: each answer is the image of what was read, and the image is taken back.
 --     row-past, row-refused     a row
 --     list-past, list-refused   a list
---     ended-more, ended-none    the end of the file
 -- Assumes nothing.
-use mathlib.Core.Path.{_≡_, refl, sym, ap, _∙_}
-use mathlib.Core.List.{List, []}
-use Prim.Native.Nat.{ℕ, _≤_, _<_}
-use borrow.Author.Tests.{lt-ltb, le-ltb}
-use lib.ListN.{length}
-use lib.Seq.{sets}
+use mathlib.Core.Path.{_≡_, sym, ap, _∙_}
+use mathlib.Core.List.{List}
+use Prim.Native.Nat.{ℕ}
 use Rattle.numbers.specs.declared.refusals.Refusal.{Refusal}
-use Rattle.numbers.specs.declared.refusals.Refusal.the-variants.{After}
 use Rattle.numbers.specs.Reading.{Out, got, bad}
 use Rattle.numbers.proofs.ReadingLaws.{never}
-use Rattle.files.specs.declared.rows.End.{End}
-use Rattle.files.specs.declared.rows.End.the-variants.{Past, Refused}
+use Rattle.reader.specs.declared.ends.End.the-variants.{Past, Refused}
 use Rattle.files.specs.declared.rows.RowRead.{RowRead}
-use Rattle.files.specs.declared.rows.ListRead.{ListRead}
-use Rattle.files.specs.File.{flat}
-use Rattle.files.specs.Stages.{rowOf, listOf, ListKept, endAfter}
+use Rattle.files.specs.Stages.{rowOf}
 
 -- ---- a row
 
@@ -44,12 +36,3 @@ row-refused (bad y) {a} {x} e p = ap bad (same (sym (ap (λ (x : RowRead). x .en
   where
     same : {x y : Refusal} → Refused x ≡ Refused y → x ≡ y
     same i = cc
-
--- ---- the end of the file
-
-module _ (s : List ℕ) {e : End} {p : ℕ} (q : e ≡ Past p) where
-  pub ended-more : p < length s → Refused (After p) ≡ endAfter e s
-  ended-more h = rw q (simp (lt-ltb _ _ h))
-
-  pub ended-none : length s ≤ p → Past p ≡ endAfter e s
-  ended-none h = rw q (simp (le-ltb _ _ h))

@@ -4,7 +4,7 @@
 --     header-back    its header is the one that was read
 --     cell-stands    cell j of row i stands at byte 5 * i + j of its list's memory
 -- Assumes nothing.
-use mathlib.Core.Path.{_≡_, refl, sym, ap, subst⁻¹, _∙_}
+use mathlib.Core.Path.{_≡_, refl, sym, ap, _∙_}
 use mathlib.Core.List.{List, [], _∷_, _++_, map}
 use mathlib.Core.Bool.{Bool, true, false}
 use Prim.Native.Nat.{ℕ, zero, suc, _+_, _*_, _≤_, _<_}
@@ -14,17 +14,16 @@ use lib.ListN.{length, getD, take, drop, length-append, length-take, List·getD-
 use lib.Seq.{sets, sets-eq, getD-append-add}
 use lib.Dec.{ltb}
 use Rattle.numbers.specs.declared.refusals.Refusal.the-variants.{After}
-use Rattle.numbers.specs.Reading.{Out, got, bad, pick, versionAt}
-use Rattle.numbers.proofs.ReadingLaws.{never, Parts, parts}
+use Rattle.numbers.specs.Reading.{got, bad, pick, versionAt}
+use Rattle.numbers.proofs.ReadingLaws.{never, parts}
 use Rattle.files.specs.declared.columns.Column.{Column}
-use Rattle.files.specs.declared.columns.Sizes.{Sizes}
 use Rattle.files.specs.declared.header.Header.{Header}
 use Rattle.files.specs.Table.{Table, Sound, StepFits, PushFits, PopFits, ErrorFits, stepCells, pushCells, popCells, errorCells}
 use Rattle.files.specs.Table.{mostThreads, mostShared, mostLocals, mostFrames, mostSteps, mostPushes, mostPops, mostErrors}
 use Rattle.files.specs.Columns.{ofThread, sizeColumns, placeColumns, localColumns, stepColumns, pushColumns, popColumns, errorColumns}
 use Rattle.files.specs.Rows.{rowAt, listAt}
 use Rattle.files.specs.Header.{sizesOf, fourOf, headerOf, headerAt}
-use Rattle.files.specs.File.{stepOf, pushOf, popOf, errorOf, tableOf, atEnd, tableAt, headerIn, flat}
+use Rattle.files.specs.File.{stepOf, pushOf, popOf, errorOf, tableOf, tableAt, headerIn, flat}
 use Rattle.files.proofs.RowFits.{CellFits, RowFits, cell, none, row-fits}
 use Rattle.files.proofs.RowKinds.{Good, list-good, step-back, push-back, pop-back, error-back, no-thread, take-cell, rows-sound}
 

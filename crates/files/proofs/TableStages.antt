@@ -5,31 +5,28 @@
 -- Assumes nothing.
 use mathlib.Core.Path.{_≡_, refl, sym, ap, _∙_}
 use mathlib.Core.List.{List, map}
-use mathlib.Core.Bool.{Bool, true, false}
 use Prim.Native.Nat.{ℕ}
 use lib.ListN.{length, replicate}
 use lib.Seq.{sets, length-sets}
-use lib.Dec.{ltb}
 use Rattle.numbers.specs.declared.refusals.Refusal.{Refusal}
-use Rattle.numbers.specs.declared.refusals.Refusal.the-variants as refusal
-use Rattle.numbers.specs.Reading.{Out, got, bad, then, pick}
-use Rattle.numbers.proofs.ReadingLaws.{never}
+use Rattle.numbers.specs.Reading.{Out, got, bad, then}
 use Rattle.files.specs.declared.columns.Column.{Column}
 use Rattle.files.specs.declared.header.Header.{Header}
 use Rattle.files.specs.declared.header.HeaderRead.{HeaderRead}
-use Rattle.files.specs.declared.rows.End.{End}
-use Rattle.files.specs.declared.rows.End.the-variants.{Past, Refused}
+use Rattle.reader.specs.declared.ends.End.{End}
+use Rattle.reader.specs.declared.ends.End.the-variants.{Past, Refused}
 use Rattle.files.specs.declared.rows.ListRead.{ListRead}
-use Rattle.files.specs.declared.table.Counts.{Counts}
 use Rattle.files.specs.declared.table.Outcome.the-variants as outcome
 use Rattle.files.specs.declared.table.TableRead.{TableRead}
 use Rattle.files.specs.Table.{Table, stepCells, pushCells, popCells, errorCells, mostSteps, mostPushes, mostPops, mostErrors}
 use Rattle.files.specs.Columns.{stepColumns, pushColumns, popColumns, errorColumns}
 use Rattle.files.specs.Rows.{listAt}
 use Rattle.files.specs.Header.{headerAt, headerReadOf}
-use Rattle.files.specs.File.{stepOf, pushOf, popOf, errorOf, tableOf, atEnd, tableAt, headerIn, tableReadOf, flat, TableIs}
-use Rattle.files.specs.Stages.{endOf, after, listOf, listAfter, ListKept, endAfter}
-use Rattle.files.proofs.RowKinds.{Good, list-good, step-back, push-back, pop-back, error-back, cells-back, map-long}
+use Rattle.files.specs.File.{stepOf, pushOf, popOf, errorOf, tableOf, tableAt, headerIn, tableReadOf, flat, TableIs}
+use Rattle.files.specs.Stages.{listOf, listAfter, ListKept}
+use Rattle.reader.specs.Ends.{atEnd, endOf, after, endAfter}
+use Rattle.reader.proofs.EndLaws.{end-past, end-refused, end-after}
+use Rattle.files.proofs.RowKinds.{list-good, step-back, push-back, pop-back, error-back, cells-back, map-long}
 use Rattle.files.proofs.TableLaws.{header-fits, TableGot, table-got, header-back}
 
 -- ---- one list: its columns, its answer, its memory before and after
@@ -58,12 +55,6 @@ stage-got {s} t e q l = (rw (e, q, l) at (t .read), rw (e, q, l) at (t .kept))
 
 -- ---- where the stages end
 
--- what is at the end does not matter for where it is
-end-same : {A B : Type 0} (a : A) (b : B) (p : ℕ) (t : Bool)
-    → endOf (pick t (bad (refusal.After p)) (got a p)) ≡ endOf (pick t (bad (refusal.After p)) (got b p))
-end-same a b p true = refl
-end-same a b p false = refl
-
 module _ (s : List ℕ) (h : Header) (f₁ f₂ f₃ f₄ : ℕ → Out (List (List ℕ))) where
   abbrev next : ListRead → (ℕ → Out (List (List ℕ))) → ListRead
   next a f = listOf (after (a .end) f)
@@ -82,7 +73,7 @@ module _ (s : List ℕ) (h : Header) (f₁ f₂ f₃ f₄ : ℕ → Out (List (L
   from₁ o = then o λ a p. from₂ a (f₂ p)
 
   by₄ : (a b c : List (List ℕ)) (o : Out (List (List ℕ))) → endAfter (listOf o .end) s ≡ endOf (from₄ a b c o)
-  by₄ a b c (got d p) = end-same (tt {0}) (tableOf h a b c d) p (ltb p (length s))
+  by₄ a b c (got d p) = end-after s (got d p) (tableOf h a b c)
   by₄ a b c (bad x) = refl
 
   by₃ : (a b : List (List ℕ)) (o : Out (List (List ℕ))) → endAfter (next (listOf o) f₄ .end) s ≡ endOf (from₃ a b o)
@@ -127,14 +118,6 @@ module _ {s : List ℕ} {top : HeaderRead} {a b c d : ListRead} {m₁ m₂ m₃ 
   stages-end = by-header (headerAt s) (t .header)
 
   -- ---- the answer
-
-  end-past : {A : Type 0} (o : Out A) (n : ℕ) → endOf o ≡ Past n → (v : A) × (o ≡ got v n)
-  end-past (got v m) n e = let q : m ≡ n = cc in (v, rw q)
-  end-past (bad x) n e = never (cc)
-
-  end-refused : {A : Type 0} (o : Out A) (x : Refusal) → endOf o ≡ Refused x → o ≡ bad x
-  end-refused (got v m) x e = never (cc)
-  end-refused (bad y) x e = let q : y ≡ x = cc in rw q
 
   pub refused : {x : Refusal} {r : TableRead} {w₁ w₂ w₃ w₄ : List ℕ} → endAfter (d .end) s ≡ Refused x → r ≡ tableReadOf (bad x)
       → w₁ ≡ replicate (length m₁′) 0 → w₂ ≡ replicate (length m₂′) 0 → w₃ ≡ replicate (length m₃′) 0 → w₄ ≡ replicate (length m₄′) 0

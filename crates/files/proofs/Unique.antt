@@ -1,13 +1,13 @@
 -- Two results that a contract allows are equal: for each public function, of its contract as the prover reads it from the source (`Post`).
 -- Every contract here is an equation for the answer and for each memory, so both results equal the same.
 -- Assumes nothing.
-use mathlib.Core.Path.{_≡_, sym, _∙_}
+use mathlib.Core.Path.{_≡_}
 use mathlib.Core.List.{List}
 use Prim.Native.Nat.{ℕ}
 use contract.Lifetimes.{Lfts}
 use denote.Ref.{now}
 use denote.Triple.Clauses.{AtExit}
-use borrow.Fn.Kinds.{Dens, resT, endedOf}
+use borrow.Fn.Kinds.{Dens, endedOf}
 use Rattle.files.specs.declared.table.TableRead.{TableRead}
 use Rattle.files.specs.File.{TableIs}
 use Rattle.files.proofs.header.room_of.Reads as room-of

@@ -1,6 +1,5 @@
 -- The columns of the rows of a table file, with the range of each (document 01, "The table, in file order").
 use Prim.Native.Nat.{ℕ}
-use mathlib.Core.Bool.{Bool, true, false}
 use mathlib.Core.List.{List, [], _∷_}
 use lib.Dec.{ltb}
 use Rattle.numbers.specs.Reading.{pick}

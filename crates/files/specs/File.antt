@@ -4,9 +4,8 @@ use mathlib.Core.Path.{_≡_}
 use mathlib.Core.List.{List, [], _∷_, _++_, map}
 use lib.ListN.{length, getD, take, drop, replicate}
 use lib.Seq.{sets}
-use lib.Dec.{ltb}
-use Rattle.numbers.specs.Reading.{Out, got, bad, then, pick}
-use Rattle.numbers.specs.declared.refusals.Refusal.the-variants as refusal
+use Rattle.numbers.specs.Reading.{Out, got, bad, then}
+use Rattle.reader.specs.Ends.{atEnd}
 use Rattle.files.specs.declared.header.Header.{Header}
 use Rattle.files.specs.declared.table.Counts.{Counts}
 use Rattle.files.specs.declared.table.Outcome.the-variants.{Accepted, Refused}
@@ -49,10 +48,6 @@ tableOf h steps pushes pops errors =
     }
 
 -- ---- the file
-
--- bytes after the end are refused, at the first of them
-abbrev pub atEnd : {A : Type 0} → A → List ℕ → ℕ → Out A
-atEnd a s p = pick (ltb p (length s)) (bad (refusal.After p)) (got a p)
 
 -- the header, the four lists, and nothing after them
 unfoldable pub tableAt : List ℕ → Out Table

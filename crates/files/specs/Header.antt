@@ -6,7 +6,7 @@ use Rattle.numbers.specs.Reading.{Out, got, bad, then, versionAt}
 use Rattle.files.specs.declared.columns.Sizes.{Sizes}
 use Rattle.files.specs.declared.header.Header.{Header}
 use Rattle.files.specs.declared.header.HeaderRead.{HeaderRead}
-use Rattle.files.specs.declared.rows.End.the-variants.{Past, Refused}
+use Rattle.reader.specs.declared.ends.End.the-variants.{Past, Refused}
 use Rattle.files.specs.Columns.{sizeColumns, placeColumns, localColumns}
 use Rattle.files.specs.Rows.{rowAt}
 

@@ -6,27 +6,15 @@ use lib.ListN.{length}
 use lib.Seq.{sets}
 use Rattle.numbers.specs.Reading.{Out, got, bad}
 use Rattle.files.specs.declared.columns.Column.{Column}
-use Rattle.files.specs.declared.rows.End.{End}
-use Rattle.files.specs.declared.rows.End.the-variants.{Past, Refused}
+use Rattle.reader.specs.declared.ends.End.{End}
+use Rattle.reader.specs.declared.ends.End.the-variants.{Past, Refused}
+use Rattle.reader.specs.Ends.{after}
 use Rattle.files.specs.declared.rows.CellRead.{CellRead}
 use Rattle.files.specs.declared.rows.CellRead.the-variants as cell
 use Rattle.files.specs.declared.rows.RowRead.{RowRead}
 use Rattle.files.specs.declared.rows.ListRead.{ListRead}
 use Rattle.files.specs.Rows.{rowAt, listAt}
-use Rattle.files.specs.File.{flat, atEnd}
-
--- ---- a part of the file, and what comes after it
-
-abbrev pub endOf : {A : Type 0} → Out A → End
-endOf (got a next) = Past next
-endOf (bad r) = Refused r
-
--- what is read after a part, or the part's refusal
-abbrev pub after : {A : Type 0} → End → (ℕ → Out A) → Out A
-after (Past next) f = f next
-after (Refused r) f = bad r
-
--- ---- a cell, a row, a list
+use Rattle.files.specs.File.{flat}
 
 abbrev pub cellOf : Out ℕ → CellRead
 cellOf (got v next) = cell.Value v next
@@ -58,7 +46,3 @@ listAfter e most cs s = after e (listAt most cs s)
 abbrev pub ListKept : Out (List (List ℕ)) → List ℕ → List ℕ → Type 0
 ListKept (got rs next) d d′ = d′ ≡ sets d 0 (flat rs)
 ListKept (bad r) d d′ = length d′ ≡ length d
-
--- the end of the file after a part of it
-abbrev pub endAfter : End → List ℕ → End
-endAfter e s = endOf (after e (atEnd (tt {0}) s))

@@ -2,15 +2,15 @@
 ghost use mathlib.Core.Path.{_≡_};
 ghost use Rattle.numbers.specs.Reading.{versionAt};
 ghost use Rattle.files.specs.Table.{room};
-ghost use Rattle.files.specs.Stages.{endOf};
+ghost use Rattle.reader.specs.Ends.{endOf};
 ghost use Rattle.files.specs.Header.{headerAt, headerReadOf, sizesOf, noHeader};
 use crate::columns::Sizes;
 use crate::columns::local_columns;
 use crate::columns::place_columns;
 use crate::columns::size_columns;
-use crate::rows::End;
 use crate::rows::row_after;
 use numbers::reading::Read;
+use reader::ends::End;
 
 // What the header says. `failed` is 0 for no failed store and k + 1 for local store k; `start` is the initial shared store;
 // `firsts` has each thread's initial local store, and 0 for the threads that are not there.
@@ -42,7 +42,7 @@ pub fn room_of(sizes: Sizes) -> usize
 fn version_end(src: &[u8]) -> End
     ensures { λ r. ⌜ r ≡ endOf (versionAt (now (src .entry))) ⌝ }
 {
-    match numbers::reading::version(src) {
+    match reader::fields::version(src) {
         Read::Value { value: _, next } => End::Past { next },
         Read::Refused { refusal } => End::Refused { refusal },
     }

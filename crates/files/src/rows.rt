@@ -11,12 +11,7 @@ ghost use Rattle.files.specs.Stages.{cellOf, rowOf, rowAfter, oldOf, lis
 use crate::columns::Column;
 use numbers::reading::Read;
 use numbers::refusals::Refusal;
-
-// The place past a part that was read, or why it was refused.
-pub enum End {
-    Past { next: usize },
-    Refused { refusal: Refusal },
-}
+use reader::ends::End;
 
 // A cell with the place past it, or the refusal.
 pub(crate) enum CellRead {
@@ -61,7 +56,7 @@ fn small(src: &[u8], at: usize, low: u32, end: u32) -> CellRead
     requires { ⌜ end ≤ 256 ⌝ }
     ensures { λ r. ⌜ r ≡ cellOf (fieldAt (now (src .entry)) at low end) ⌝ }
 {
-    match numbers::reading::field(src, at, low, end) {
+    match reader::fields::field(src, at, low, end) {
         Read::Value { value, next } => CellRead::Value {
             value: value as u8,
             next,
@@ -212,7 +207,7 @@ fn list(src: &[u8], at: usize, most: u32, columns: [Column; 5], dst: &mut [u8]) 
     ensures { λ r. ⌜ (r ≡ listOf (listAt most columns (now (src .entry)) at))
         × ListKept (listAt most columns (now (src .entry)) at) (now (dst .entry)) (now (dst .exit)) ⌝ }
 {
-    match numbers::reading::field(src, at, 0, most + 1) {
+    match reader::fields::field(src, at, 0, most + 1) {
         Read::Value { value, next } => rows(src, next, value as usize, columns, dst),
         Read::Refused { refusal } => no_list(refusal),
     }

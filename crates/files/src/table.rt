@@ -3,7 +3,6 @@ ghost use mathlib.Core.Path.{_≡_};
 ghost use lib.ListN.{length, replicate};
 ghost use Rattle.numbers.specs.Reading.{bad};
 ghost use Rattle.files.specs.File.{tableReadOf, TableIs};
-ghost use Rattle.files.specs.Stages.{endAfter};
 use crate::columns::error_columns;
 use crate::columns::pop_columns;
 use crate::columns::push_columns;
@@ -11,9 +10,10 @@ use crate::columns::step_columns;
 use crate::header::Header;
 use crate::header::no_header;
 use crate::header::read_header;
-use crate::rows::End;
 use crate::rows::list_after;
 use numbers::refusals::Refusal;
+use reader::ends::End;
+use reader::ends::end_after;
 
 // How many rows each list may have.
 const MOST_STEPS: u32 = 1024;
@@ -57,23 +57,6 @@ fn no_table(refusal: Refusal) -> TableRead
             errors: 0,
         },
         outcome: Outcome::Refused { refusal },
-    }
-}
-
-// The end of the file, which is to follow a part of it.
-fn end_after(src: &[u8], before: End) -> End
-    ensures { λ r. ⌜ r ≡ endAfter before (now (src .entry)) ⌝ }
-{
-    match before {
-        End::Past { next } => {
-            if next < src.len() {
-                return End::Refused {
-                    refusal: Refusal::After { at: next },
-                };
-            }
-            End::Past { next }
-        }
-        End::Refused { refusal } => End::Refused { refusal },
     }
 }
 

@@ -1,7 +1,7 @@
 -- How a number is written (document 01, "Numbers"), and what writing one leaves in a slice.
 use Prim.Native.Nat.{ℕ, zero, suc, _+_, _/_, _%_}
 use mathlib.Core.List.{List, [], _∷_}
-use mathlib.Core.Bool.{Bool, true, false}
+use mathlib.Core.Bool.{Bool, false}
 use lib.ListN.{length}
 use lib.Seq.{sets}
 use lib.Dec.{ltb, leb}

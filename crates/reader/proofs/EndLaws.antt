@@ -1,5 +1,7 @@
--- The end of a file.
---     ended-left     bytes that are left at a place are bytes after the end there
+-- Where a part of a file ends, and the end of the file.
+--     ended-left               bytes that are left at a place are bytes after the end there
+--     end-past, end-refused    what an end tells of what was read
+--     end-after                the end of the file after a part is where the whole ends that is made of the part
 -- Assumes nothing.
 use mathlib.Core.Path.{_≡_, refl}
 use mathlib.Core.List.{List}
@@ -9,8 +11,13 @@ use native.Mathlib.Omega.{arith}
 use borrow.Author.Tests.{eq-eqb, ne-eqb, ltb-true, ltb-false}
 use lib.ListN.{length}
 use lib.Dec.{ltb}
+use Rattle.numbers.specs.declared.refusals.Refusal.{Refusal}
+use Rattle.numbers.specs.declared.refusals.Refusal.the-variants.{After}
+use Rattle.numbers.specs.Reading.{Out, got, bad, then, pick}
+use Rattle.numbers.proofs.ReadingLaws.{never}
+use Rattle.reader.specs.declared.ends.End.the-variants.{Past, Refused}
 use Rattle.reader.specs.Places.{leftFrom}
-use Rattle.reader.specs.Ends.{atEnd, endOf, endedOf}
+use Rattle.reader.specs.Ends.{atEnd, endOf, endAfter, endedOf}
 
 module _ (s : List ℕ) (at : ℕ) where
   by-test : (t : Bool) → ltb at (length s) ≡ t → endedOf (leftFrom s at) at ≡ endOf (atEnd (tt {0}) s at)
@@ -19,3 +26,22 @@ module _ (s : List ℕ) (at : ℕ) where
 
   pub ended-left : endedOf (leftFrom s at) at ≡ endOf (atEnd (tt {0}) s at)
   ended-left = by-test (ltb at (length s)) refl
+
+-- ---- what an end tells
+
+pub end-past : {A : Type 0} (o : Out A) (n : ℕ) → endOf o ≡ Past n → (a : A) × (o ≡ got a n)
+end-past (got a m) n e = let i : m ≡ n = cc in (a, rw i)
+end-past (bad r) n e = never (cc)
+
+pub end-refused : {A : Type 0} (o : Out A) (r : Refusal) → endOf o ≡ Refused r → o ≡ bad r
+end-refused (got a m) r e = never (cc)
+end-refused (bad q) r e = let i : q ≡ r = cc in rw i
+
+-- what is at the end does not matter for where it is
+end-same : {A B : Type 0} (a : A) (b : B) (p : ℕ) (t : Bool) → endOf (pick t (bad (After p)) (got a p)) ≡ endOf (pick t (bad (After p)) (got b p))
+end-same a b p true = refl
+end-same a b p false = refl
+
+pub end-after : {A B : Type 0} (s : List ℕ) (o : Out A) (f : A → B) → endAfter (endOf o) s ≡ endOf (then o λ a p. atEnd (f a) s p)
+end-after s (got a p) f = end-same (tt {0}) (f a) p (ltb p (length s))
+end-after s (bad r) f = refl

@@ -15,7 +15,7 @@ use Rattle.numbers.specs.Reading.{Out, got, bad}
 use Rattle.numbers.proofs.ReadingLaws.{never}
 use Rattle.files.specs.declared.header.Header.{Header}
 use Rattle.files.specs.declared.header.HeaderRead.{HeaderRead}
-use Rattle.files.specs.declared.rows.End.the-variants.{Past, Refused}
+use Rattle.reader.specs.declared.ends.End.the-variants.{Past, Refused}
 use Rattle.files.specs.Table.{mostThreads, mostShared, mostLocals, mostFrames}
 use Rattle.files.specs.Header.{headerAt, headerReadOf}
 use Rattle.files.proofs.TableLaws.{header-fits}

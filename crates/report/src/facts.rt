@@ -2,7 +2,7 @@
 ghost use Rattle.store.specs.Plans.{Planned};
 ghost use Rattle.report.specs.Listed.{NextIn, NextOf};
 use files::header::read_header;
-use files::rows::End;
+use reader::ends::End;
 use store::marks::next_mark;
 use store::plan::Plan;
 use store::plan::plan_of;

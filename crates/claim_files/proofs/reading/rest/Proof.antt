@@ -1,36 +1,33 @@
--- `claim_files::reading::rest` meets its contract: the end of the positions, and then the end of the file.
+-- `claim_files::reading::rest` meets its contract: the end of the file after the positions tells which case of `restAt` holds.
 -- Assumes nothing.
 use borrow.Author.Needs.{needs}
-use mathlib.Core.Path.{sym, _∙_}
-use Rattle.claim_files.proofs.ClaimLaws.{rest-refused, rest-more, rest-read}
+use Rattle.claim_files.proofs.ClaimLaws.{rest-read, rest-refused}
 use Rattle.claim_files.proofs.reading.rest.Statement.{statement}
 use Rattle.claim_files.proofs.reading.rest.Tie as tie
 
 positions-requires : tie.Need-positions-requires
 positions-requires c κs = search needs
 
-enum-known-next : tie.Need-enum-known-next
-enum-known-next c = search needs
+end-after-requires : tie.Need-end-after-requires
+end-after-requires c κs = search needs
 
-returns : tie.Need-returns
-returns c =
-    let arm = c .before .before in
-    rest-more _ _ _ _ (sym (arm .next .given .1) ∙ arm .before .before .positions .ensures) (c .if1 .taken)
+enum-told : tie.Need-enum-told
+enum-told c = search needs
 
 enum-known-refusal : tie.Need-enum-known-refusal
 enum-known-refusal c = search needs
 
+returns : tie.Need-returns
+returns c =
+    let e : tie.After-end-after = c .before .before in
+    rest-read _ _ _ _ (e .before .positions .ensures) (e .end-after .ensures) (c .enum-told .given .1)
+
 returns-2 : tie.Need-returns-2
 returns-2 c =
-    let arm = c .before .before in
-    rest-read _ _ _ _ (sym (arm .next .given .1) ∙ arm .before .before .positions .ensures) (c .if1 .left)
-
-returns-3 : tie.Need-returns-3
-returns-3 c =
-    let arm = c .before in
-    rest-refused _ _ _ _ (sym (arm .refusal .given .1) ∙ arm .before .before .positions .ensures)
+    let e : tie.After-end-after = c .before .before .before in
+    rest-refused _ _ _ _ (e .before .positions .ensures) (e .end-after .ensures) (c .before .refusal .given .1)
 
 pub rest-spec : {M : Type 1} → statement M
 rest-spec =
     tie.close
-    (tie.spec positions-requires enum-known-next returns enum-known-refusal returns-2 returns-3)
+    (tie.spec positions-requires end-after-requires enum-told enum-known-refusal returns returns-2)

@@ -1,8 +1,6 @@
 use borrow.Author.Tests.{lt-ltb, le-ltb}
 use Rattle.files.proofs.columns.of_thread.Statement.{statement}
 use Rattle.files.proofs.columns.of_thread.Tie as tie
-use Rattle.files.proofs.columns.of_thread.Reads as reads
-use Rattle.files.proofs.columns.of_thread.Lts as lts
 
 -- src/columns.rt:31:9
 returns : tie.Need-returns

@@ -1,6 +1,6 @@
 -- `files::header::room_of` meets its contract: each product is bounded from the bytes on.
 -- Assumes nothing.
-use Prim.Native.Nat.{ℕ, _+_, _*_, _≤_}
+use Prim.Native.Nat.{_+_, _*_, _≤_}
 use native.Mathlib.Omega.{arith}
 use borrow.Author.Needs.{needs}
 use Rattle.files.specs.declared.columns.Sizes.{Sizes}

@@ -1,10 +1,10 @@
 -- `files::rows::row` meets its contract. The loop's invariant: the cells up to column j are read, and the rest of the row stands from p on.
 -- The measure is how many columns are left. Assumes nothing.
-use mathlib.Core.Path.{_≡_, sym, _∙_}
+use mathlib.Core.Path.{sym, _∙_}
 use Prim.Native.Nat.{_-_}
 use native.Mathlib.Omega.{arith}
 use borrow.Author.Needs.{needs}
-use Rattle.files.specs.Rows.{cellAt, rowAt}
+use Rattle.files.specs.Rows.{cellAt}
 use Rattle.files.proofs.RowLaws.{cell-got, cell-bad, Filling, fill-start, fill-more, fill-bad, fill-end}
 use Rattle.files.proofs.rows.row.Statement.{statement}
 use Rattle.files.proofs.rows.row.Tie as tie

@@ -1,6 +1,6 @@
 -- `files::rows::small` meets its contract: a number below its range's end, which is at most 256, fits a byte.
 -- Assumes nothing.
-use mathlib.Core.Path.{_≡_, sym, _∙_}
+use mathlib.Core.Path.{sym, _∙_}
 use native.Mathlib.Omega.{arith}
 use borrow.Author.Needs.{needs}
 use Rattle.numbers.specs.Reading.{fieldAt}

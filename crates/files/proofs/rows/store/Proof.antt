@@ -4,8 +4,6 @@ use Rattle.files.proofs.RowMemory.{five-stored}
 use borrow.Author.Needs.{needs}
 use Rattle.files.proofs.rows.store.Statement.{statement}
 use Rattle.files.proofs.rows.store.Tie as tie
-use Rattle.files.proofs.rows.store.Reads as reads
-use Rattle.files.proofs.rows.store.Lts as lts
 
 -- src/rows.rt:165:17
 array-read-dst : tie.Need-array-read-dst

@@ -1,9 +1,9 @@
 -- `files::table::read_table` meets its contract: its stages, one after the other, are the definition's; after a refusal the memories are wiped.
 -- Assumes nothing.
-use mathlib.Core.Path.{_≡_, sym, ap, _∙_}
+use mathlib.Core.Path.{sym, _∙_}
 use borrow.Author.Needs.{needs}
 use denote.Ref.{now}
-use Rattle.files.proofs.TableStages.{Stage, stage, Staged, accepted, refused}
+use Rattle.files.proofs.TableStages.{stage, Staged, accepted, refused}
 use Rattle.files.proofs.table.read_table.Statement.{statement}
 use Rattle.files.proofs.table.read_table.Tie as tie
 
