@@ -9,7 +9,7 @@ use lib.ListN.{length, length-append}
 use lib.Seq.{sets, length-sets}
 use Rattle.numbers.specs.Writing.{bytesOf}
 use Rattle.numbers.proofs.WritingLaws.{one-to-four-bytes}
-use Rattle.files.proofs.RowMemory.{sets-append}
+use Rattle.lists.proofs.RowMemory.{sets-append}
 use Rattle.store.specs.Marking.{NextMark}
 use Rattle.claim_files.specs.declared.writing.Sizes.{Sizes}
 use Rattle.claim_files.specs.ClaimFile.{distancesFrom, bytesOfAll, claimBytes, ClaimPut}

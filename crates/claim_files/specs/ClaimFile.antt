@@ -8,7 +8,7 @@ use lib.ListN.{length}
 use lib.Seq.{sets}
 use Rattle.numbers.specs.Reading.{Out, got, bad, then, fieldAt, versionAt}
 use Rattle.numbers.specs.Writing.{bytesOf}
-use Rattle.files.specs.Rows.{push}
+use Rattle.lists.specs.Rows.{push}
 use Rattle.reader.specs.Ends.{atEnd}
 use Rattle.claim_files.specs.declared.reading.Claimed.{Claimed}
 use Rattle.claim_files.specs.declared.reading.Claimed.the-variants as claimed

@@ -7,17 +7,16 @@ use mathlib.Core.List.{List}
 use Prim.Native.Nat.{ℕ}
 use Rattle.numbers.specs.declared.refusals.Refusal.{Refusal}
 use Rattle.numbers.specs.Reading.{Out, got, bad, then, versionAt}
-use Rattle.files.specs.declared.columns.Column.{Column}
-use Rattle.files.specs.declared.columns.Sizes.{Sizes}
+use Rattle.lists.specs.declared.columns.Column.{Column}
+use Rattle.lists.specs.declared.columns.Sizes.{Sizes}
 use Rattle.files.specs.declared.header.Header.{Header}
 use Rattle.files.specs.declared.header.HeaderRead.{HeaderRead}
 use Rattle.reader.specs.declared.ends.End.{End}
 use Rattle.reader.specs.declared.ends.End.the-variants.{Past, Refused}
-use Rattle.files.specs.declared.rows.RowRead.{RowRead}
-use Rattle.files.specs.Columns.{sizeColumns, placeColumns, localColumns}
-use Rattle.files.specs.Rows.{rowAt}
-use Rattle.files.specs.Header.{sizesOf, headerOf, headerAt, noHeader, headerReadOf}
-use Rattle.files.specs.Stages.{rowOf}
+use Rattle.lists.specs.declared.rows.RowRead.{RowRead}
+use Rattle.lists.specs.Rows.{rowAt}
+use Rattle.files.specs.Header.{sizeColumns, placeColumns, localColumns, sizesOf, headerOf, headerAt, noHeader, headerReadOf}
+use Rattle.lists.specs.Stages.{rowOf}
 use Rattle.reader.specs.Ends.{endOf, after}
 
 -- the answer of three rows' cells and the last one's end

@@ -1,54 +1,22 @@
 -- The rows of a list that was read, as records and as cells: a record of a row gives the row's cells back, whatever kind of row it is.
---     list-good                         each row of a list that was read fits its columns and is above the one before; there are at most `most`
 --     step-back, …, error-back          the cells of a row's record are the row
 --     cells-back, rows-sound            so are the cells of a list's records, and the records are sound rows
 -- Assumes nothing.
 use mathlib.Core.Path.{_≡_, refl, sym, ap, ap₂, subst, subst⁻¹}
 use mathlib.Core.List.{List, [], _∷_, map, List·Memᴰ, List·Memᴰ·head, List·Memᴰ·tail}
-use mathlib.Core.Bool.{true}
-use Prim.Native.Nat.{ℕ, zero, suc, _+_, _≤_}
+use Prim.Native.Nat.{ℕ, zero, suc, _≤_}
 use native.Mathlib.Omega.{arith}
 use borrow.Author.Tests.{le-ltb}
 use lib.ListN.{length, getD, take}
-use Rattle.numbers.specs.Reading.{got, fieldAt}
-use Rattle.numbers.proofs.ReadingLaws.{parts}
-use Rattle.numbers.proofs.FieldLaws.{field-got}
-use Rattle.files.specs.declared.columns.Column.{Column}
-use Rattle.files.specs.declared.columns.Sizes.{Sizes}
-use Rattle.files.specs.Table.{below, Above, none, row, Rows, stepCells, pushCells, popCells, errorCells}
-use Rattle.files.specs.Columns.{ofThread, stepColumns, pushColumns, popColumns, errorColumns}
-use Rattle.files.specs.Rows.{nextRow, rowsAt, listAt}
+use Rattle.lists.specs.declared.columns.Column.{Column}
+use Rattle.lists.specs.declared.columns.Sizes.{Sizes}
+use Rattle.lists.specs.Order.{Above, none, row}
+use Rattle.files.specs.Table.{Rows, stepCells, pushCells, popCells, errorCells}
+use Rattle.lists.specs.Columns.{ofThread, stepColumns, pushColumns, popColumns, errorColumns}
 use Rattle.files.specs.File.{stepOf, pushOf, popOf, errorOf}
-use Rattle.files.proofs.RowMemory.{five-cells}
-use Rattle.files.proofs.RowFits.{CellFits, RowFits, cell, none as end, row-fits, fits-long, pushed}
-use Rattle.files.proofs.ListLaws.{next-got}
-
--- ---- a list that was read
-
--- each row fits its columns, and is above the one before
-pub data Good (cs : List Column) : List ℕ → List (List ℕ) → Type 0 where
-  last : {old : List ℕ} → Good cs old []
-  more : {old r : List ℕ} {rs : List (List ℕ)} → RowFits cs r → below old r ≡ true → Good cs r rs → Good cs old (r ∷ rs)
-
-rows-good : (k : ℕ) (old : List ℕ) (cs : List Column) (s : List ℕ) (at : ℕ) (rs : List (List ℕ)) (n : ℕ)
-    → rowsAt k old cs s at ≡ got rs n → Good cs old rs × (length rs ≡ k)
-unfolding rowsAt
-rows-good zero old cs s at rs n e = let q : [] ≡ rs = cc in subst (λ (x : List (List ℕ)). Good cs old x × (length x ≡ 0)) q (last, refl)
-rows-good (suc k) old cs s at rs n e =
-    let p = parts (nextRow old cs s at) _ rs n e in
-    let q = pushed (p .first) (rowsAt k (p .first) cs s (p .place)) rs n (p .rest) in
-    let r = next-got old cs s at (p .first) (p .place) (p .was) in
-    let g = rows-good k (p .first) cs s (p .place) (q .rest) n (q .was) in
-    subst (λ (x : List (List ℕ)). Good cs old x × (length x ≡ suc k)) (sym (q .whole))
-    (more (row-fits cs s at (p .first) (p .place) (r .0)) (r .1) (g .0), ap suc (g .1))
-
-pub list-good : (most : ℕ) (cs : List Column) (s : List ℕ) (at : ℕ) (rs : List (List ℕ)) (n : ℕ)
-    → listAt most cs s at ≡ got rs n → Good cs [] rs × (length rs ≤ most)
-unfolding listAt
-list-good most cs s at rs n e =
-    let p = parts (fieldAt s at 0 (most + 1)) _ rs n e in
-    let g = rows-good (p .first) [] cs s (p .place) rs n (p .rest) in
-    (g .0, omega (arith, g .1, field-got s at 0 (most + 1) (p .first) (p .place) (p .was)))
+use Rattle.lists.proofs.RowMemory.{five-cells}
+use Rattle.lists.proofs.RowFits.{CellFits, RowFits, cell, none as end, fits-long}
+use Rattle.lists.proofs.ListFits.{Good, last, more}
 
 -- ---- a row's record gives its cells back
 

@@ -6,46 +6,47 @@
 use mathlib.Core.Path.{_≡_, refl, sym, ap, _∙_}
 use mathlib.Core.List.{List, map}
 use Prim.Native.Nat.{ℕ}
-use lib.ListN.{length, replicate}
+use lib.ListN.{length, replicate, length-replicate}
 use lib.Seq.{sets, length-sets}
 use Rattle.numbers.specs.declared.refusals.Refusal.{Refusal}
 use Rattle.numbers.specs.Reading.{Out, got, bad, then}
-use Rattle.files.specs.declared.columns.Column.{Column}
+use Rattle.lists.specs.declared.columns.Column.{Column}
 use Rattle.files.specs.declared.header.Header.{Header}
 use Rattle.files.specs.declared.header.HeaderRead.{HeaderRead}
 use Rattle.reader.specs.declared.ends.End.{End}
 use Rattle.reader.specs.declared.ends.End.the-variants.{Past, Refused}
-use Rattle.files.specs.declared.rows.ListRead.{ListRead}
+use Rattle.lists.specs.declared.rows.ListRead.{ListRead}
 use Rattle.files.specs.declared.table.Outcome.the-variants as outcome
 use Rattle.files.specs.declared.table.TableRead.{TableRead}
 use Rattle.files.specs.Table.{Table, stepCells, pushCells, popCells, errorCells, mostSteps, mostPushes, mostPops, mostErrors}
-use Rattle.files.specs.Columns.{stepColumns, pushColumns, popColumns, errorColumns}
-use Rattle.files.specs.Rows.{listAt}
+use Rattle.lists.specs.Columns.{stepColumns, pushColumns, popColumns, errorColumns}
+use Rattle.lists.specs.Rows.{listAt, flat}
 use Rattle.files.specs.Header.{headerAt, headerReadOf}
-use Rattle.files.specs.File.{stepOf, pushOf, popOf, errorOf, tableOf, tableAt, headerIn, tableReadOf, flat, TableIs}
-use Rattle.files.specs.Stages.{listOf, listAfter, ListKept}
+use Rattle.files.specs.File.{stepOf, pushOf, popOf, errorOf, tableOf, tableAt, headerIn, tableReadOf, TableIs}
+use Rattle.lists.specs.Stages.{listOf, listAfter, listHeld}
 use Rattle.reader.specs.Ends.{atEnd, endOf, after, endAfter}
 use Rattle.reader.proofs.EndLaws.{end-past, end-refused, end-after}
-use Rattle.files.proofs.RowKinds.{list-good, step-back, push-back, pop-back, error-back, cells-back, map-long}
+use Rattle.lists.proofs.ListFits.{list-good}
+use Rattle.files.proofs.RowKinds.{step-back, push-back, pop-back, error-back, cells-back, map-long}
 use Rattle.files.proofs.TableLaws.{header-fits, TableGot, table-got, header-back}
 
 -- ---- one list: its columns, its answer, its memory before and after
 
 pub record Stage (e : End) (most : ℕ) (cs : List Column) (s : List ℕ) (a : ListRead) (m m′ : List ℕ) : Type 0 where
   pub read : a ≡ listOf (listAfter e most cs s)
-  pub kept : ListKept (listAfter e most cs s) m m′
+  pub kept : m′ ≡ listHeld (listAfter e most cs s) m
 
 -- the columns are the ones that the code made
 pub stage : {e : End} {most : ℕ} {cs cs′ : List Column} {s : List ℕ} {a : ListRead} {m m′ : List ℕ} → cs′ ≡ cs
-    → (a ≡ listOf (listAfter e most cs′ s)) × ListKept (listAfter e most cs′ s) m m′ → Stage e most cs s a m m′
+    → (a ≡ listOf (listAfter e most cs′ s)) × (m′ ≡ listHeld (listAfter e most cs′ s) m) → Stage e most cs s a m m′
 stage q (r, k) = record { read = rw q at r; kept = rw q at k }
 
-kept-long : (o : Out (List (List ℕ))) (m m′ : List ℕ) → ListKept o m m′ → length m′ ≡ length m
-kept-long (got rs n) m m′ k = ap length k ∙ length-sets m 0 (flat rs)
-kept-long (bad x) m m′ k = k
+held-long : (o : Out (List (List ℕ))) (m : List ℕ) → length (listHeld o m) ≡ length m
+held-long (got rs n) m = length-sets m 0 (flat rs)
+held-long (bad x) m = length-replicate (length m) 0
 
 pub stage-long : {e : End} {most : ℕ} {cs : List Column} {s : List ℕ} {a : ListRead} {m m′ : List ℕ} → Stage e most cs s a m m′ → length m′ ≡ length m
-stage-long {e} {most} {cs} {s} {m} {m′} t = kept-long (listAfter e most cs s) m m′ (t .kept)
+stage-long {e} {most} {cs} {s} {m} t = ap length (t .kept) ∙ held-long (listAfter e most cs s) m
 
 -- a list that was read: its answer, and its rows in memory
 stage-got : {e : End} {most : ℕ} {cs cs′ : List Column} {s : List ℕ} {a : ListRead} {m m′ : List ℕ} {p n : ℕ} {rs : List (List ℕ)}

@@ -1,7 +1,7 @@
 -- A whole table file (document 01, "The table, in file order" and "What comes back"): the table that it holds, or the refusal.
 use Prim.Native.Nat.{ℕ}
 use mathlib.Core.Path.{_≡_}
-use mathlib.Core.List.{List, [], _∷_, _++_, map}
+use mathlib.Core.List.{List, map}
 use lib.ListN.{length, getD, take, drop, replicate}
 use lib.Seq.{sets}
 use Rattle.numbers.specs.Reading.{Out, got, bad, then}
@@ -12,8 +12,8 @@ use Rattle.files.specs.declared.table.Outcome.the-variants.{Accepted, Re
 use Rattle.files.specs.declared.table.TableRead.{TableRead}
 use Rattle.files.specs.Table.{Table, Step, Push, Pop, Error, stepCells, pushCells, popCells, errorCells}
 use Rattle.files.specs.Table.{mostSteps, mostPushes, mostPops, mostErrors}
-use Rattle.files.specs.Columns.{stepColumns, pushColumns, popColumns, errorColumns}
-use Rattle.files.specs.Rows.{listAt}
+use Rattle.lists.specs.Columns.{stepColumns, pushColumns, popColumns, errorColumns}
+use Rattle.lists.specs.Rows.{listAt, flat}
 use Rattle.files.specs.Header.{fourOf, headerAt, noHeader}
 
 -- ---- the table of a header and four lists of rows
@@ -85,11 +85,6 @@ noCounts = record { steps = 0; pushes = 0; pops = 0; errors = 0 }
 abbrev pub tableReadOf : Out Table → TableRead
 tableReadOf (got T next) = record { header = headerIn T; counts = countsIn T; outcome = Accepted }
 tableReadOf (bad r) = record { header = noHeader; counts = noCounts; outcome = Refused r }
-
--- the rows' cells, five to a row, one row after the other
-abbrev pub flat : List (List ℕ) → List ℕ
-flat [] = []
-flat (r ∷ rs) = r ++ flat rs
 
 abbrev pub stepBytes : Table → List ℕ
 stepBytes T = flat (map stepCells (T .steps))

@@ -3,12 +3,31 @@ use Prim.Native.Nat.{ℕ}
 use mathlib.Core.List.{List, [], _∷_}
 use lib.ListN.{getD}
 use Rattle.numbers.specs.Reading.{Out, got, bad, then, versionAt}
-use Rattle.files.specs.declared.columns.Sizes.{Sizes}
+use Rattle.lists.specs.declared.columns.Column.{Column}
+use Rattle.lists.specs.declared.columns.Column.the-variants.{Within, Below, Absent}
+use Rattle.lists.specs.declared.columns.Sizes.{Sizes}
 use Rattle.files.specs.declared.header.Header.{Header}
 use Rattle.files.specs.declared.header.HeaderRead.{HeaderRead}
 use Rattle.reader.specs.declared.ends.End.the-variants.{Past, Refused}
-use Rattle.files.specs.Columns.{sizeColumns, placeColumns, localColumns}
-use Rattle.files.specs.Rows.{rowAt}
+use Rattle.lists.specs.Columns.{perThread}
+use Rattle.lists.specs.Rows.{rowAt}
+use Rattle.files.specs.Table.{mostThreads, mostShared, mostLocals, mostFrames}
+
+-- ---- the columns of its three parts
+
+-- threads 1..4, shared stores 1..16, local stores 1..16, frames 0..8
+abbrev pub sizeColumns : List Column
+sizeColumns = Within 1 mostThreads ∷ Within 1 mostShared ∷ Within 1 mostLocals ∷ Within 0 mostFrames ∷ Absent ∷ []
+
+-- failed 0..L; the initial shared store 0..G-1
+abbrev pub placeColumns : Sizes → List Column
+placeColumns z = Within 0 (z .locals) ∷ Below (z .shared) ∷ Absent ∷ Absent ∷ Absent ∷ []
+
+-- the initial local store 0..L-1, one per thread
+abbrev pub localColumns : Sizes → List Column
+localColumns z = perThread (z .threads) (Below (z .locals)) (Absent ∷ [])
+
+-- ---- the header
 
 abbrev pub sizesOf : List ℕ → Sizes
 sizesOf z = record { threads = getD z 0 0; shared = getD z 1 0; locals = getD z 2 0; frames = getD z 3 0 }

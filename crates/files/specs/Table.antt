@@ -1,11 +1,10 @@
 -- A table (document 01, "The table, in file order"): what a file says, with no bytes in it, and when every number of it is in its range.
 -- The layers above know a table by these records alone.
 use mathlib.Core.Path.{_≡_}
-use mathlib.Core.Bool.{Bool, true, false}
 use mathlib.Core.List.{List, [], _∷_, map, List·Memᴰ}
 use Prim.Native.Nat.{ℕ, _+_, _*_, _≤_, _<_}
 use lib.ListN.{length, getD}
-use lib.Dec.{ltb, eqb}
+use Rattle.lists.specs.Order.{Ascending}
 
 -- ---- the limits
 
@@ -92,27 +91,6 @@ popCells r = r .t ∷ r .g ∷ r .l ∷ r .f ∷ r .l′ ∷ []
 
 abbrev pub errorCells : Error → List ℕ
 errorCells r = r .shared ∷ getD (r .locals) 0 0 ∷ getD (r .locals) 1 0 ∷ getD (r .locals) 2 0 ∷ getD (r .locals) 3 0 ∷ []
-
--- ---- the order of rows
-
-abbrev pub pickBool : Bool → Bool → Bool → Bool
-pickBool true a b = a
-pickBool false a b = b
-
--- the first row is below the second, compared number by number from the left; no row, [], is below every row
-unfoldable pub below : List ℕ → List ℕ → Bool
-below l [] = false
-below [] (b ∷ bs) = true
-below (a ∷ l) (b ∷ bs) = pickBool (eqb a b) (below l bs) (ltb a b)
-
--- each row is above the one before it, and the first above `old`
-pub data Above : List ℕ → List (List ℕ) → Type 0 where
-  none : {old : List ℕ} → Above old []
-  row : {old r : List ℕ} {rs : List (List ℕ)} → below old r ≡ true → Above r rs → Above old (r ∷ rs)
-
--- strictly ascending rows
-abbrev pub Ascending : List (List ℕ) → Type 0
-Ascending rs = Above [] rs
 
 -- ---- every number in its range
 

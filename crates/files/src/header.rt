@@ -3,14 +3,22 @@ ghost use mathlib.Core.Path.{_≡_};
 ghost use Rattle.numbers.specs.Reading.{versionAt};
 ghost use Rattle.files.specs.Table.{room};
 ghost use Rattle.reader.specs.Ends.{endOf};
-ghost use Rattle.files.specs.Header.{headerAt, headerReadOf, sizesOf, noHeader};
-use crate::columns::Sizes;
-use crate::columns::local_columns;
-use crate::columns::place_columns;
-use crate::columns::size_columns;
-use crate::rows::row_after;
+ghost use Rattle.files.specs.Header.{sizeColumns, placeColumns, localColumns, headerAt, headerReadOf, sizesOf, noHeader};
+use lists::columns::Column;
+use lists::columns::Sizes;
+use lists::columns::of_thread;
+use lists::rows::row_after;
 use numbers::reading::Read;
 use reader::ends::End;
+
+// How many threads, shared stores, local stores and frames there may be.
+const MOST_THREADS: u8 = 4;
+
+const MOST_SHARED: u8 = 16;
+
+const MOST_LOCALS: u8 = 16;
+
+const MOST_FRAMES: u8 = 8;
 
 // What the header says. `failed` is 0 for no failed store and k + 1 for local store k; `start` is the initial shared store;
 // `firsts` has each thread's initial local store, and 0 for the threads that are not there.
@@ -46,6 +54,64 @@ fn version_end(src: &[u8]) -> End
         Read::Value { value: _, next } => End::Past { next },
         Read::Refused { refusal } => End::Refused { refusal },
     }
+}
+
+// The sizes of a table.
+fn size_columns() -> [Column; 5]
+    ensures { λ r. ⌜ r ≡ sizeColumns ⌝ }
+{
+    [
+        Column::Within {
+            low: 1,
+            most: MOST_THREADS,
+        },
+        Column::Within {
+            low: 1,
+            most: MOST_SHARED,
+        },
+        Column::Within {
+            low: 1,
+            most: MOST_LOCALS,
+        },
+        Column::Within {
+            low: 0,
+            most: MOST_FRAMES,
+        },
+        Column::Absent,
+    ]
+}
+
+// The failed store and the initial shared store.
+fn place_columns(z: Sizes) -> [Column; 5]
+    ensures { λ r. ⌜ r ≡ placeColumns z ⌝ }
+{
+    let failed = Column::Within {
+        low: 0,
+        most: z.locals,
+    };
+    let shared = Column::Below { end: z.shared };
+    [
+        failed,
+        shared,
+        Column::Absent,
+        Column::Absent,
+        Column::Absent,
+    ]
+}
+
+// Each thread's initial local store.
+fn local_columns(z: Sizes) -> [Column; 5]
+    ensures { λ r. ⌜ r ≡ localColumns z ⌝ }
+{
+    let n = z.threads;
+    let local = Column::Below { end: z.locals };
+    [
+        of_thread(n, 0, local),
+        of_thread(n, 1, local),
+        of_thread(n, 2, local),
+        of_thread(n, 3, local),
+        Column::Absent,
+    ]
 }
 
 // The sizes in the first four cells of a row.

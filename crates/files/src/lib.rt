@@ -1,5 +1,3 @@
-// Table files: rows of numbers, the header, the whole table (document 01, "The table, in file order").
-pub mod columns;
+// Table files: the header, and the whole table (document 01, "The table, in file order").
 pub mod header;
-pub mod rows;
 pub mod table;

@@ -1,16 +1,16 @@
 // The whole table file, into memory of the caller's: five bytes a row, each list in a memory of its own.
 ghost use mathlib.Core.Path.{_≡_};
-ghost use lib.ListN.{length, replicate};
 ghost use Rattle.numbers.specs.Reading.{bad};
 ghost use Rattle.files.specs.File.{tableReadOf, TableIs};
-use crate::columns::error_columns;
-use crate::columns::pop_columns;
-use crate::columns::push_columns;
-use crate::columns::step_columns;
 use crate::header::Header;
 use crate::header::no_header;
 use crate::header::read_header;
-use crate::rows::list_after;
+use lists::columns::error_columns;
+use lists::columns::pop_columns;
+use lists::columns::push_columns;
+use lists::columns::step_columns;
+use lists::rows::list_after;
+use lists::rows::wipe;
 use numbers::refusals::Refusal;
 use reader::ends::End;
 use reader::ends::end_after;
@@ -57,17 +57,6 @@ fn no_table(refusal: Refusal) -> TableRead
             errors: 0,
         },
         outcome: Outcome::Refused { refusal },
-    }
-}
-
-// Zeros in every byte.
-fn wipe(dst: &mut [u8])
-    ensures { λ _. ⌜ now (dst .exit) ≡ replicate (length (now (dst .entry))) 0 ⌝ }
-{
-    let mut i = 0;
-    while i < dst.len() {
-        dst[i] = 0;
-        i += 1;
     }
 }
 

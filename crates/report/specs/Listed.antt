@@ -4,7 +4,7 @@ use mathlib.Core.List.{List}
 use Prim.Native.Nat.{ℕ, _+_, _≤_}
 use Rattle.numbers.specs.declared.refusals.Refusal.{Refusal}
 use Rattle.numbers.specs.Reading.{got, bad}
-use Rattle.files.specs.declared.columns.Sizes.{Sizes}
+use Rattle.lists.specs.declared.columns.Sizes.{Sizes}
 use Rattle.files.specs.declared.header.Header.{Header}
 use Rattle.files.specs.Header.{headerAt}
 use Rattle.model.specs.Claims.{First}
