@@ -1,4 +1,4 @@
--- The two tables of 004's Simple, by the rule of document 01 that crate files gives. In the training table thread t's mutex mark is t + 1; in
+-- The two tables of 004's Simple, by the rule of document 01 that crate training gives. In the training table thread t's mutex mark is t + 1; in
 -- the other one the mutex is true or false, and its mark is 1 for both threads.
 -- The training table has 57 facts and is safe. With the true/false mutex a failure is possible, though real runs never fail there: a
 -- guarantee does not say who holds the mutex, so each thread's facts let the other change x at any time (004, section 1.2).
@@ -12,7 +12,7 @@ use native.Mathlib.Decide.{ℕ-discrete}
 use native.Mathlib.Omega.{arith}
 use lib.ListN.{length}
 use Rattle.files.specs.Table.{Table}
-use Rattle.training.specs.Training.{simple, training}
+use Rattle.training.specs.Training.{training, mutex}
 use Rattle.model.specs.Rules.{Fact, G, P, Derives}
 use Rattle.model.specs.Memory.{FactCount}
 use Rattle.model.specs.Verdict.{Verdict}
@@ -71,10 +71,6 @@ unfolding training fifteen fortyTwo verdict?
 training-safe = exact-verdict training-exact (decided (verdict? training (omega arith) (fifteen ++ fortyTwo) none) tt)
 
 -- ---- the true/false mutex
-
-unfoldable pub mutex : Table
-unfolding simple
-mutex = simple (0 ∷ 1 ∷ []) (0 ∷ 1 ∷ []) (λ t. 1) []
 
 -- every place seems to be reached
 mutexFacts : List Fact

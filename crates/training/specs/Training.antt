@@ -118,3 +118,8 @@ ownMark t = t + 1
 unfoldable pub training : Table
 unfolding simple races
 training = simple (0 ∷ 1 ∷ 2 ∷ []) (0 ∷ 1 ∷ 2 ∷ 3 ∷ []) ownMark (races ++ unrestored ∷ [])
+
+-- two threads with a true/false mutex: both put 1 into it
+unfoldable pub mutex : Table
+unfolding simple
+mutex = simple (0 ∷ 1 ∷ []) (0 ∷ 1 ∷ []) (λ t. 1) []
