@@ -1,16 +1,19 @@
 -- Two results that a contract allows are equal. Most contracts here are equations for the answer or the memory, and say so themselves; these are
--- those that are none: what a test answers, the next mark, a memory that is clear, whose length a loan keeps, and one whose first marks are taken
--- off.
+-- those that are none: what a test answers, the next mark, a memory that is clear, whose length a loan keeps, one whose first marks are taken
+-- off, and a list of rows, whose length is its type's.
 -- Assumes nothing.
 use mathlib.Core.Path.{_≡_, refl, sym, ap₂, _∙_}
 use mathlib.Core.Bool.{Bool, true, false}
 use mathlib.Core.List.{List, _++_}
-use Prim.Native.Nat.{ℕ}
+use Prim.Native.Nat.{ℕ, _<_}
+use native.Mathlib.Decide.{decLt}
 use native.Mathlib.Omega.{arith}
 use lib.ListN.{length, take, drop, take-append-drop}
 use lib.Seq.{ext-getD}
 use Rattle.model.proofs.Unique.{first-same}
+use Rattle.store.specs.declared.rows.Row.{Row}
 use Rattle.store.specs.Marking.{Is, NextMark, here, nowhere, Clear, Cleared}
+use Rattle.store.specs.Reading.{zeroRow, nth, Listed}
 
 -- what has, some and lacks answer
 pub is-unique : (A : Type 0) (r r′ : Bool) → Is A r → Is A r′ → r ≡ r′
@@ -34,3 +37,11 @@ parts-same w {m} {m′} e q = sym (take-append-drop w m) ∙ ap₂ (λ (x y : Li
 
 pub cleared-unique : {w : ℕ} {m m₁ m₂ : List ℕ} → Cleared w m m₁ → Cleared w m m₂ → m₁ ≡ m₂
 cleared-unique {w} c c′ = parts-same w (c .zeros ∙ sym (c′ .zeros)) (c .rest ∙ sym (c′ .rest))
+
+pub listed-unique : {bytes : List ℕ} {n : ℕ} {rows rows′ : List Row} → length rows ≡ length rows′ → Listed bytes n rows → Listed bytes n rows′
+    → rows ≡ rows′
+listed-unique {n} {rows} {rows′} long z z′ = ext-getD zeroRow rows rows′ long (λ k l. same k (decLt k n))
+  where
+    same : (k : ℕ) → Dec (k < n) → nth rows k ≡ nth rows′ k
+    same k (yes l) = z .read k l ∙ sym (z′ .read k l)
+    same k (no l) = z .rest k (omega arith) ∙ sym (z′ .rest k (omega arith))

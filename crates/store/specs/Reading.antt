@@ -1,7 +1,8 @@
--- The rows of a table as they are lent: a slice of bytes for each kind, five to a row, of which the first n rows count.
+-- The rows of a table as they are lent: a slice of bytes for each kind, five to a row, of which the first n rows count; and such rows as a
+-- list of structs.
 use mathlib.Core.Path.{_≡_}
 use mathlib.Core.List.{List, List·Memᴰ}
-use Prim.Native.Nat.{ℕ, _+_, _*_, _<_}
+use Prim.Native.Nat.{ℕ, _+_, _*_, _<_, _≤_}
 use lib.ListN.{getD}
 use Rattle.files.specs.Table.{Table, Step, Push, Pop}
 use Rattle.store.specs.declared.rows.Row.{Row}
@@ -17,6 +18,18 @@ rowOf rows i =
       u = getD rows (i * 5 + 3) 0;
       v = getD rows (i * 5 + 4) 0;
     }
+
+-- row k of a list of rows; past its end, a row of zeros
+abbrev pub zeroRow : Row
+zeroRow = record { t = 0; g = 0; l = 0; u = 0; v = 0 }
+
+abbrev pub nth : List Row → ℕ → Row
+nth rows k = getD rows k zeroRow
+
+-- a list of rows has the first n rows of a list of bytes, and rows of zeros after them
+pub record Listed (bytes : List ℕ) (n : ℕ) (rows : List Row) : Type 0 where
+  pub read : (k : ℕ) → k < n → nth rows k ≡ rowOf bytes k
+  pub rest : (k : ℕ) → n ≤ k → nth rows k ≡ zeroRow
 
 -- the row as each of the three kinds
 abbrev pub stepOf : Row → Step

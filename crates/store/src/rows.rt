@@ -1,16 +1,16 @@
-// The rows of a table as they are lent: a slice of bytes for each kind, five bytes a row.
+// The rows of a table as they are lent: a slice of bytes for each kind, five bytes a row; and a list of row structs.
 ghost use mathlib.Core.Path.{_≡_};
-ghost use Prim.Native.Nat.{_+_, _*_, _<_};
+ghost use Prim.Native.Nat.{_+_, _*_, _<_, _≤_};
 ghost use lib.ListN.{length, getD};
-ghost use Rattle.store.specs.Reading.{rowOf};
+ghost use Rattle.store.specs.Reading.{rowOf, Listed};
 
 // A row of five numbers: its thread, its place g, l, and two more. These are g', l' of a step row; l', f of a push row; f, l' of a pop row.
 pub struct Row {
-    pub t: usize,
-    pub g: usize,
-    pub l: usize,
-    pub u: usize,
-    pub v: usize,
+    pub t: u8,
+    pub g: u8,
+    pub l: u8,
+    pub u: u8,
+    pub v: u8,
 }
 
 // How many rows of each kind there are.
@@ -40,11 +40,11 @@ pub fn row_at(rows: &[u8], i: usize) -> Row
     ensures { λ r. ⌜ r ≡ rowOf (now (rows .entry)) i ⌝ }
 {
     let a = i * 5;
-    let t = cell(rows, a);
-    let g = cell(rows, a + 1);
-    let l = cell(rows, a + 2);
-    let u = cell(rows, a + 3);
-    let v = cell(rows, a + 4);
+    let t = rows[a];
+    let g = rows[a + 1];
+    let l = rows[a + 2];
+    let u = rows[a + 3];
+    let v = rows[a + 4];
     Row {
         t: t,
         g: g,
@@ -52,4 +52,26 @@ pub fn row_at(rows: &[u8], i: usize) -> Row
         u: u,
         v: v,
     }
+}
+
+// The first n step rows as a list of structs, and rows of zeros after them.
+pub fn step_rows(steps: &[u8], n: usize) -> [Row; 1024]
+    requires { ⌜ (n ≤ 1024) × (n * 5 ≤ length (now steps)) ⌝ }
+    ensures { λ r. ⌜ Listed (now (steps .entry)) n r ⌝ }
+{
+    let zeros = Row {
+        t: 0,
+        g: 0,
+        l: 0,
+        u: 0,
+        v: 0,
+    };
+    let mut rows = [zeros; 1024];
+    let mut i: usize = 0;
+    while i < n {
+        let r = row_at(steps, i);
+        rows[i] = r;
+        i += 1;
+    }
+    rows
 }

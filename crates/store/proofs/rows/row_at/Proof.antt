@@ -1,5 +1,6 @@
 -- The five cells of the row, one after the other.
 -- Assumes nothing.
+use mathlib.Core.Path.{refl}
 use borrow.Author.Needs.{needs}
 use Rattle.store.proofs.rows.row_at.Statement.{statement}
 use Rattle.store.proofs.rows.row_at.Tie as tie
@@ -7,48 +8,48 @@ use Rattle.store.proofs.rows.row_at.Tie as tie
 mul-a : tie.Need-mul-a
 mul-a c = search needs
 
-cell-requires : tie.Need-cell-requires
-cell-requires c κs = search needs
+shared-slice-read-t : tie.Need-shared-slice-read-t
+shared-slice-read-t c = search needs
 
-add-cell : tie.Need-add-cell
-add-cell c = search needs
+add-g : tie.Need-add-g
+add-g c = search needs
 
-cell-requires-2 : tie.Need-cell-requires-2
-cell-requires-2 c κs = search needs
+shared-slice-read-g : tie.Need-shared-slice-read-g
+shared-slice-read-g c = search needs
 
-add-cell-2 : tie.Need-add-cell-2
-add-cell-2 c = search needs
+add-l : tie.Need-add-l
+add-l c = search needs
 
-cell-requires-3 : tie.Need-cell-requires-3
-cell-requires-3 c κs = search needs
+shared-slice-read-l : tie.Need-shared-slice-read-l
+shared-slice-read-l c = search needs
 
-add-cell-3 : tie.Need-add-cell-3
-add-cell-3 c = search needs
+add-u : tie.Need-add-u
+add-u c = search needs
 
-cell-requires-4 : tie.Need-cell-requires-4
-cell-requires-4 c κs = search needs
+shared-slice-read-u : tie.Need-shared-slice-read-u
+shared-slice-read-u c = search needs
 
-add-cell-4 : tie.Need-add-cell-4
-add-cell-4 c = search needs
+add-v : tie.Need-add-v
+add-v c = search needs
 
-cell-requires-5 : tie.Need-cell-requires-5
-cell-requires-5 c κs = search needs
+shared-slice-read-v : tie.Need-shared-slice-read-v
+shared-slice-read-v c = search needs
 
 returns : tie.Need-returns
-returns c = cc
+returns c = refl
 
 pub row-at-spec : {M : Type 1} → statement M
 row-at-spec =
     tie.close
     (tie.spec
     mul-a
-    cell-requires
-    add-cell
-    cell-requires-2
-    add-cell-2
-    cell-requires-3
-    add-cell-3
-    cell-requires-4
-    add-cell-4
-    cell-requires-5
+    shared-slice-read-t
+    add-g
+    shared-slice-read-g
+    add-l
+    shared-slice-read-l
+    add-u
+    shared-slice-read-u
+    add-v
+    shared-slice-read-v
     returns)
