@@ -9,6 +9,9 @@ use native.Mathlib.Decide.{decLt}
 use native.Mathlib.Omega.{arith}
 use lib.ListN.{getD, take}
 use lib.Seq.{getD-take}
+use contract.Lifetimes.{Lfts}
+use denote.Triple.Clauses.{AtExit}
+use borrow.Fn.Kinds.{Dens, endedOf}
 use Rattle.files.specs.Table.{Table, Sound}
 use Rattle.model.specs.Rules.{Fact, Derives}
 use Rattle.model.specs.Errors.{Witness}
@@ -22,10 +25,11 @@ use Rattle.model.proofs.InRange.{derives-fits}
 use Rattle.model.proofs.Memory.{marked-in, in-marked}
 use Rattle.model.proofs.Unique.{verdict-same}
 use Rattle.model.proofs.Claims.{witness-row}
-use Rattle.store.specs.declared.plan.Plan.{Plan}
 use Rattle.verdict.specs.declared.search.Verdict.{Verdict}
 use Rattle.verdict.specs.declared.search.Verdict.the-variants.{Safe, Possible}
-use Rattle.verdict.specs.Judged.{ErrorsOf, shown, Padded, Answers, Judged}
+use Rattle.verdict.specs.Judged.{shown, Padded, Answers, Judged}
+use Rattle.verdict.proofs.search.judge.Reads as judge
+use Rattle.verdict.proofs.search.judge.Kinds as judge-kinds
 
 -- ---- the only answer
 
@@ -54,11 +58,6 @@ module _ {T : Table} where
   pub answers-same : {S : Fact → Type 0} {r r′ : Verdict} → Answers T S r → Answers T S r′ → r ≡ r′
   answers-same {r} {r′} a b = shown-same (T .n) r r′ (verdict-same (a .verdict) (b .verdict)) (a .padded) (b .padded)
 
-  -- two answers that the contract of judge allows
-  pub judge-same : {s : Plan} {failed : ℕ} {rows : List ℕ} {n : ℕ} {mem : List ℕ} {r r′ : Verdict} → ErrorsOf T s failed rows n
-      → ((T : Table) → ErrorsOf T s failed rows n → Judged T mem r) → ((T : Table) → ErrorsOf T s failed rows n → Judged T mem r′) → r ≡ r′
-  judge-same of a b = answers-same (a T of) (b T of)
-
   -- ---- the verdict on the facts that a memory holds
 
   pub judged-held : {S : Fact → Type 0} {mem : List ℕ} {r : Verdict} → Holds T S mem → ((f : Fact) → S f → Fits T f)
@@ -80,3 +79,9 @@ module _ {T : Table} where
 
     pub safe-no-row : Answers T S Safe → (row : ℕ) → ¬ AllowsRow T S row
     safe-no-row a row r = safe-none a (r .witness) (r .allows)
+
+-- ---- the contract as the prover reads it from the source
+
+pub judge-fixes : (κs : Lfts 2) (a : Dens κs judge-kinds.ps) (x x′ : Verdict) (s s′ : AtExit (endedOf 2 judge-kinds.ps judge-kinds.r) κs)
+    → judge.Pre κs a → judge.Post κs a x s → judge.Post κs a x′ s′ → x ≡ x′
+judge-fixes κs a x x′ s s′ ((T, of), _, _) p q = answers-same (p T of) (q T of)

@@ -1,26 +1,41 @@
 -- What is said of the lent bytes is what model says of the table: the stores that a thread reaches, the cells of an error row, and so the errors
 -- that are allowed.
 -- Assumes nothing.
-use mathlib.Core.Path.{_≡_, refl, sym, ap, _∙_}
+use mathlib.Core.Path.{_≡_, refl, sym, ap, subst, _∙_}
 use mathlib.Core.Option.{some}
 use mathlib.Core.List.{List, []}
 use Prim.Native.Nat.{ℕ, zero, suc, _+_, _*_, _/_, _%_, _≤_, _<_}
 use native.Mathlib.Omega.{arith}
 use lib.Arith.{digits-lt}
 use lib.ListN.{length, getD, getElem?}
-use Rattle.files.specs.Table.{Table, Sound, Error, errorCells}
+use Rattle.files.specs.Table.{Table, Sound, Error, errorCells, mostErrors}
 use Rattle.model.specs.Rules.{P}
 use Rattle.model.specs.Errors.{Cell, Erroneous, Reaches, Witness, Allows}
 use Rattle.model.specs.Errors as model
 use Rattle.model.specs.Memory.{Marked}
 use Rattle.store.specs.declared.plan.Plan.{Plan}
-use Rattle.store.specs.Plans.{planOf}
+use Rattle.store.specs.Plans.{Planned, planOf}
 use Rattle.store.proofs.MarkLaws.{marked-has, has-marked}
-use Rattle.store.proofs.PlanIsModel.{pos-p, pos-p-to, pair-fits}
+use Rattle.store.proofs.PlanIsModel.{planned, pos-p, pos-p-to, pair-fits}
 use Rattle.verdict.specs.Judged.{rowCell, ErrorsOf}
 use Rattle.verdict.specs.Search.{Reached}
 use Rattle.verdict.proofs.Lists.{some-lt, some-getD, getD-some}
 use Rattle.verdict.proofs.CellLaws.{cell-eq}
+
+-- ---- what is lent is in range
+
+abbrev pub Ranges : Plan → ℕ → List ℕ → ℕ → List ℕ → Type 0
+Ranges s failed rows n m = Planned s × (failed ≤ s .l) × (5 * n ≤ length rows) × (n ≤ mostErrors) × (s .w ≤ length m)
+
+pub errors-in-range : {T : Table} {s : Plan} {failed : ℕ} {rows : List ℕ} {n : ℕ} (m : List ℕ) → ErrorsOf T s failed rows n → 5 * n ≤ length rows
+    → s .w ≤ length m → Ranges s failed rows n m
+errors-in-range {T} m of long enough = (
+  subst Planned (sym (of .plan)) (planned T (of .sound)),
+  rw (of .plan, of .fails) (of .sound .failed),
+  long,
+  omega (arith, of .count, of .sound .errors .count),
+  enough,
+)
 
 -- ---- the stores that are reached
 

@@ -3,8 +3,7 @@
 ghost use mathlib.Core.Path.{_≡_};
 ghost use Prim.Native.Nat.{_*_, _≤_};
 ghost use lib.ListN.{length, getD};
-ghost use Rattle.files.specs.Table.{Table, mostErrors};
-ghost use Rattle.store.specs.Plans.{Planned};
+ghost use Rattle.files.specs.Table.{Table};
 ghost use Rattle.store.specs.Marking.{room};
 ghost use Rattle.verdict.specs.Judged.{ErrorsOf, Judged};
 use crate::cells::aim;
@@ -46,7 +45,7 @@ fn found(row: usize, g: usize, ls: [usize; 4]) -> Verdict
 
 // The verdict on the facts that mem marks, of a table with plan s, the failed cell and n error rows of five bytes.
 pub fn judge(s: Plan, failed: usize, rows: &[u8], n: usize, mem: &[u8]) -> Verdict
-    requires { ⌜ Planned s × (failed ≤ s .l) × (5 * n ≤ length (now rows)) × (n ≤ mostErrors) × (s .w ≤ room (now mem)) ⌝ }
+    requires { ⌜ ((T : Table) × ErrorsOf T s failed (now rows) n) × (5 * n ≤ length (now rows)) × (s .w ≤ room (now mem)) ⌝ }
     ensures { λ r. ⌜ ((T : Table) → ErrorsOf T s failed (now (rows .entry)) n → Judged T (now (mem .entry)) r) ⌝ }
 {
     let threads = s.n;

@@ -5,6 +5,7 @@ use Prim.Native.Nat.{_-_, _≤_}
 use native.Mathlib.Omega.{arith}
 use borrow.Author.Needs.{needs}
 use Rattle.verdict.proofs.Lists.{getD-zeros}
+use Rattle.verdict.proofs.OfTable.{Ranges, errors-in-range}
 use Rattle.verdict.proofs.OneRow.{aimed-lt, unaimed-none}
 use Rattle.verdict.proofs.Progress.{
   Passed,
@@ -43,8 +44,13 @@ abbrev given : tie.At-threads Inv-threads μ-threads Inv-shared μ-shared Inv-ro
     → tie.Start Inv-threads μ-threads Inv-shared μ-shared Inv-rows μ-rows
 given c = c .before .before .before .before .before .before .before .before .before
 
+-- and it is in range
+in-range : (c : tie.Start Inv-threads μ-threads Inv-shared μ-shared Inv-rows μ-rows)
+    → Ranges (c .args .s) (c .args .failed) (c .args .rows .now) (c .args .n) (c .args .mem .now)
+in-range c = let (table, long, enough) = c .pre in errors-in-range (c .args .mem .now) (table .1) long enough
+
 add-last : tie.Need-add-last Inv-threads μ-threads Inv-shared μ-shared Inv-rows μ-rows
-add-last c = search needs
+add-last c = omega (arith, in-range (c .before .before) .3)
 
 rows-holds : tie.Need-rows-holds Inv-threads μ-threads Inv-shared μ-shared Inv-rows μ-rows
 rows-holds c = (omega arith, passed-start)
@@ -54,7 +60,7 @@ shared-holds c = (omega arith, c .before .rows .inv .1)
 
 aim-requires : tie.Need-aim-requires Inv-threads μ-threads Inv-shared μ-shared Inv-rows μ-rows
 aim-requires c κs =
-    let h = c .before .before .before .before .before .before .pre in
+    let h = in-range (c .before .before .before .before .before .before) in
     (h .0, h .1, h .2, h .3, h .4, omega (arith, c .before .before .rows-test .taken), c .shared-test .taken)
 
 add-g : tie.Need-add-g Inv-threads μ-threads Inv-shared μ-shared Inv-rows μ-rows
@@ -69,7 +75,7 @@ shared-again c =
 
 threads-holds : tie.Need-threads-holds Inv-threads μ-threads Inv-shared μ-shared Inv-rows μ-rows
 threads-holds c =
-    let h = c .before .before .before .before .before .before .before .before .pre in (
+    let h = in-range (c .before .before .before .before .before .before .before .before) in (
       refl,
       record {
         passed = c .before .before .before .shared .inv .1;
@@ -88,16 +94,16 @@ threads-holds c =
 
 cell-of-requires : tie.Need-cell-of-requires Inv-threads μ-threads Inv-shared μ-shared Inv-rows μ-rows
 cell-of-requires c κs =
-    let h = given (c .before) .pre in
+    let h = in-range (given (c .before)) in
     (h .2, h .3, c .before .threads .inv .1 .at .row-le, omega (arith, c .threads-test .taken, h .0 .n-max))
 
 least-requires : tie.Need-least-requires Inv-threads μ-threads Inv-shared μ-shared Inv-rows μ-rows
 least-requires c κs =
-    let h = given (c .before .before) .pre in
+    let h = in-range (given (c .before .before)) in
     (h .0, h .4, c .before .threads-test .taken, omega (arith, c .before .before .threads .inv .1 .at .g-lt))
 
 add-g-2 : tie.Need-add-g-2 Inv-threads μ-threads Inv-shared μ-shared Inv-rows μ-rows
-add-g-2 c = omega (arith, c .before .before .before .before .threads .inv .1 .at .g-lt, given (c .before .before .before .before) .pre .0 .g-max)
+add-g-2 c = omega (arith, c .before .before .before .before .threads .inv .1 .at .g-lt, in-range (given (c .before .before .before .before)) .0 .g-max)
 
 shared-less-2 : tie.Need-shared-less-2 Inv-threads μ-threads Inv-shared μ-shared Inv-rows μ-rows
 shared-less-2 c = omega (arith, c .before .before .before .before .threads .inv .0, c .before .before .before .before .threads .inv .1 .at .g-lt)
@@ -113,12 +119,12 @@ shared-again-2 c =
 mul-ls : tie.Need-mul-ls Inv-threads μ-threads Inv-shared μ-shared Inv-rows μ-rows
 mul-ls c =
     let now = c .before .before .before .before in
-    omega (arith, c .before .before .before .threads-test .taken, given now .pre .0 .n-max)
+    omega (arith, c .before .before .before .threads-test .taken, in-range (given now) .0 .n-max)
 
 array-write-ls : tie.Need-array-write-ls Inv-threads μ-threads Inv-shared μ-shared Inv-rows μ-rows
 array-write-ls c =
     let now = c .before .before .before .before in
-    omega (arith, c .before .before .before .threads-test .taken, given now .pre .0 .n-max, now .threads .inv .1 .four)
+    omega (arith, c .before .before .before .threads-test .taken, in-range (given now) .0 .n-max, now .threads .inv .1 .four)
 
 add-t : tie.Need-add-t Inv-threads μ-threads Inv-shared μ-shared Inv-rows μ-rows
 add-t c = search needs
@@ -132,7 +138,7 @@ threads-again c =
     let l = c .before .before .before .threads-test .taken in (
       now .0,
       choosing-next (now .1) l (c .before .before .cell-of .ensures) (c .before .least .ensures)
-          (omega (arith, given (c .before .before .before .before) .pre .0 .n-max)) (c .if2 .left),
+          (omega (arith, in-range (given (c .before .before .before .before)) .0 .n-max)) (c .if2 .left),
     )
 
 found-requires : tie.Need-found-requires Inv-threads μ-threads Inv-shared μ-shared Inv-rows μ-rows
