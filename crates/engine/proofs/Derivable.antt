@@ -21,12 +21,12 @@ use Rattle.store.specs.Marking.{room, Has, marked}
 use Rattle.store.specs.Plans.{planOf}
 use Rattle.store.specs.Reading.{Reads}
 use Rattle.store.proofs.MarkLaws.{put-room, has?, has-before, BitsTo, bits-put, total-put, marked-has, has-marked}
-use Rattle.engine.specs.Uses.{Uses, Lacks}
-use Rattle.engine.specs.RuleUses.{AllUses}
-use Rattle.engine.specs.Passing.{Grew, none, more}
+use Rattle.uses.specs.Uses.{Uses, Lacks}
+use Rattle.engine.specs.AllUses.{AllUses}
+use Rattle.uses.specs.Passing.{Grew, none, more}
 use Rattle.engine.specs.Answers.{Exceeds}
-use Rattle.engine.proofs.PassLaws.{grew-has}
-use Rattle.engine.proofs.Bridge.{used-lacks}
+use Rattle.uses.proofs.PassLaws.{grew-has}
+use Rattle.uses.proofs.Bridge.{used-lacks}
 use Rattle.engine.proofs.UsesAreYields.{yields-used, lacks-yields}
 
 -- c facts are marked, all of them derivable

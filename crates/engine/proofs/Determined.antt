@@ -6,15 +6,28 @@ use mathlib.Core.Path.{_≡_, refl, sym, ap, _∙_}
 use mathlib.Core.List.{List}
 use Prim.Native.Nat.{ℕ, _<_}
 use native.Mathlib.Omega.{arith}
+use lib.ListN.{length}
 use lib.Seq.{take-all, ext-getD}
+use contract.Lifetimes.{Lfts}
+use denote.Ref.{now}
+use denote.Triple.Clauses.{AtExit}
+use borrow.Fn.Kinds.{Dens, endedOf}
 use Rattle.files.specs.Table.{Table, Sound, W}
 use Rattle.model.specs.Memory.{FactCount}
 use Rattle.model.proofs.Memory.{over-budget}
 use Rattle.model.proofs.Unique.{holds-same, fact-count-same, first-same}
+use Rattle.store.specs.declared.plan.Plan.{Plan}
 use Rattle.store.specs.Marking.{room}
+use Rattle.store.proofs.PlanIsModel.{w-is}
 use Rattle.engine.specs.declared.run.Answer.{Answer}
 use Rattle.engine.specs.declared.run.Answer.the-variants.{Done, Over}
 use Rattle.engine.specs.Answers.{Exceeds, Ran, Confirmed, lacking, whole}
+use Rattle.engine.proofs.run.run.Reads as run
+use Rattle.engine.proofs.run.run.Kinds as run-kinds
+use Rattle.engine.proofs.run.missing.Reads as missing
+use Rattle.engine.proofs.run.missing.Kinds as missing-kinds
+use Rattle.engine.proofs.run.start_at.Reads as start-at
+use Rattle.engine.proofs.run.start_at.Kinds as start-at-kinds
 
 module _ {T : Table} (sound : Sound T) where
   -- where the budget is exceeded, every count of the facts is above it
@@ -34,3 +47,21 @@ confirmed-same (lacking a) (lacking b) = first-same a b
 confirmed-same (lacking a) (whole e n) = absurd (n _ (a .here))
 confirmed-same (whole e n) (lacking a) = absurd (n _ (a .here))
 confirmed-same (whole e n) (whole e′ n′) = e ∙ sym e′
+
+-- ---- the contracts as the prover reads them from the source; a loan keeps its length
+
+pub run-fixes : (κs : Lfts 5) (a : Dens κs run-kinds.ps) (x x′ : Answer) (s s′ : AtExit (endedOf 5 run-kinds.ps run-kinds.r) κs)
+    → let m = now (a .1 .1 .1 .1 .1 .1 .1 .0) in let end = now (s .1 .1 .1 .1 .1 .1 .1 .0) in let end′ = now (s′ .1 .1 .1 .1 .1 .1 .1 .0) in
+    length end ≡ length m → length end′ ≡ length m → run.Pre κs a → run.Post κs a x s → run.Post κs a x′ s′ → (x ≡ x′) × (end ≡ end′)
+run-fixes κs a x x′ s s′ l l′ ((T, rows, first), long) p q =
+    let w : a .0 .w ≡ W T = ap (λ (z : Plan). z .w) (rows .plan) ∙ w-is T in
+    ran-same (rows .sound) _ (l ∙ long ∙ w) (l′ ∙ long ∙ w) x x′ (p T rows first) (q T rows first)
+
+pub missing-fixes : (κs : Lfts 4) (a : Dens κs missing-kinds.ps) (x x′ : ℕ) (s s′ : AtExit (endedOf 4 missing-kinds.ps missing-kinds.r) κs)
+    → missing.Pre κs a → missing.Post κs a x s → missing.Post κs a x′ s′
+    → (x ≡ x′) × (now (s .1 .1 .1 .1 .1 .0) ≡ now (s′ .1 .1 .1 .1 .1 .0))
+missing-fixes κs a x x′ s s′ ((T, rows), _) (p, kept) (q, kept′) = (confirmed-same (p T rows) (q T rows), kept ∙ sym kept′)
+
+pub start-at-fixes : (κs : Lfts 1) (a : Dens κs start-at-kinds.ps) (x x′ : ℕ) (s s′ : AtExit (endedOf 1 start-at-kinds.ps start-at-kinds.r) κs)
+    → start-at.Post κs a x s → start-at.Post κs a x′ s′ → x ≡ x′
+start-at-fixes κs a x x′ s s′ p q = p .0 ∙ sym (q .0)

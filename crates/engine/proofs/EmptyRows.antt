@@ -1,73 +1,62 @@
 -- A row of facts with no mark gives nothing: each use on it has a premise in it.
 -- Assumes nothing.
-use mathlib.Core.Path.{_≡_, refl, subst, _∙_}
+use mathlib.Core.Path.{_≡_, refl, sym, ap, subst}
 use mathlib.Core.Bool.{Bool}
 use mathlib.Core.Logic.{inl, inr}
 use mathlib.Core.List.{List}
-use Prim.Native.Nat.{ℕ, _+_, _*_, _/_, _%_, _<_, _≤_}
-use native.Mathlib.Nat.{mod-lt}
+use Prim.Native.Nat.{ℕ, _+_, _*_, _/_, _%_, _<_}
 use native.Mathlib.Omega.{arith}
 use Rattle.store.specs.declared.plan.Plan.{Plan}
 use Rattle.store.specs.declared.rows.RowCounts.{RowCounts}
 use Rattle.store.specs.Marking.{Has, SomeIn}
 use Rattle.store.specs.Plans.{Planned, pFrom, qFrom}
-use Rattle.store.specs.Reading.{rowOf}
-use Rattle.store.proofs.Places.{pair-lt, q-row, cut}
-use Rattle.engine.specs.declared.lines.Pass.{Pass}
-use Rattle.engine.specs.Given.{Given}
-use Rattle.engine.specs.Uses.{Single, Either, Upto}
-use Rattle.engine.specs.RuleUses.{MovedUse, PUses, FrameUses, QUses}
-use Rattle.engine.specs.Passing.{Swept}
-use Rattle.engine.proofs.PassLaws.{swept-empty}
-
--- two uses of one mark
-from-one : {x y y′ q z w : ℕ} → Either (Single x y) (Single x y′) q z w → z ≡ x
-from-one (inl u) = u .1
-from-one (inr u) = u .1
+use Rattle.store.proofs.Places.{q-row}
+use Rattle.uses.specs.declared.lines.Pass.{Pass}
+use Rattle.uses.specs.Ranges.{RowsIn}
+use Rattle.uses.specs.Passing.{Swept}
+use Rattle.uses.proofs.PassLaws.{swept-empty, swept-idle}
+use Rattle.uses.proofs.Premises.{some-part, steps-in, pushes-in, pops-in, calls-in, moved-in}
+use Rattle.engine.specs.InRange.{Given}
+use Rattle.engine.specs.AllUses.{FrameUses, PRow, QRow, QRows}
+use Rattle.engine.proofs.RowNumbers.{p-begins, q-begins}
 
 module _ (m : List ℕ) where
-  -- a mark j places after x is one among n
-  some-at : (x : ℕ) {z n : ℕ} (j : ℕ) → j < n → z ≡ x + j → Has m z → SomeIn m x n
-  some-at x j l e h = record { j = j; lt = l; here = subst (Has m) e h }
-
-  -- a mark among the places of a part is one among those of the whole
-  some-part : (x y : ℕ) {n k : ℕ} (d : ℕ) → y ≡ x + d → d + k ≤ n → SomeIn m y k → SomeIn m x n
-  some-part x y d e l s = some-at x (d + s .j) (omega (arith, s .lt)) (omega arith) (s .here)
+  -- row i of the P facts
+  pub p-row-some : {s : Plan} {n : RowCounts} {st pu po : List ℕ} → Given s n st pu po → {i q z y : ℕ} → i < s .n * s .k → PRow s n st pu i q z y
+      → Has m q → Has m z → SomeIn m (s .p + i * s .k) (s .k)
+  p-row-some {s} {n} {st} {pu} given {i} {q} {z} {y} l u hq hz = subst (λ x. SomeIn m x (s .k)) (p-begins (given .plan) l) (some-in u)
+    where
+      some-in : PRow s n st pu i q z y → SomeIn m (pFrom s (i / s .k) (i % s .k)) (s .k)
+      some-in (inl u) = steps-in m (given .plan) (given .steps .fit) _ _ u hz
+      some-in (inr (inl u)) = pushes-in m (given .plan) pu (given .pushes .fit) _ _ u hz
+      some-in (inr (inr u)) = moved-in m (given .plan) _ _ u hz
 
   module _ {s : Plan} (h : Planned s) where
-    moved-in : (t x : ℕ) {q z y : ℕ} → Upto (MovedUse s t x) (s .p) q z y → Has m z → SomeIn m x (s .k)
-    moved-in t x u hz =
-        let i = u .k in
-        let v = u .given .1 .1 in
-        some-at x (i / s .g % s .g * s .l + v .k) (omega (arith, cut h (i / s .g % s .g) (mod-lt _ (h .g-pos)), v .lt)) (v .given .1 ∙ omega arith) hz
-
+    -- the Q facts of t from pair a with frame f
     frame-in : (t a f q z y : ℕ) → FrameUses s t a f q z y → Has m q → Has m z → SomeIn m (qFrom s t a + f * s .k) (s .k)
-    frame-in t a f q z y (inl u) hq hz = some-at _ (u .k) (u .lt) (u .given .0) hq
-    frame-in t a f q z y (inr u) hq hz = moved-in t _ u hz
+    frame-in t a f q z y (inl u) hq hz = calls-in m h t _ u hq
+    frame-in t a f q z y (inr u) hq hz = moved-in m h t _ u hz
 
     pub frame-empty : (t a f : ℕ) {b : Pass} (put : Bool) → ¬ SomeIn m (qFrom s t a + f * s .k) (s .k) → Swept (FrameUses s t a f) put b b m m
     frame-empty t a f put = swept-empty _ put (frame-in t a f)
 
-  module _ {s : Plan} {n : RowCounts} {st pu po : List ℕ} (given : Given s n st pu po) where
-    p-in : (t a q z y : ℕ) → PUses s n st pu t a q z y → Has m q → Has m z → SomeIn m (pFrom s t a) (s .k)
-    p-in t a q z y (inl u) hq hz =
-        let r = given .steps .fit (u .k) (u .lt) in
-        some-at _ _ (pair-lt (given .plan) (r .g) (r .l)) (from-one (u .given .1)) hz
-    p-in t a q z y (inr (inl u)) hq hz =
-        let r = given .pushes .fit (u .k) (u .lt) in
-        some-at _ _ (pair-lt (given .plan) (r .g) (r .l)) (from-one (u .given .1)) hz
-    p-in t a q z y (inr (inr u)) hq hz = moved-in (given .plan) t _ u hz
+    module _ (n : RowCounts) {po : List ℕ} (pops : RowsIn s (s .f) (s .l) po (n .pops)) where
+      -- row i of the Q facts, with each frame
+      q-row-some : (i q z y : ℕ) → QRow s n po i q z y → Has m q → Has m z → SomeIn m (qFrom s (i / s .k) (i % s .k)) (s .f * s .k)
+      q-row-some i q z y (inl u) hq hz = some-part m _ _ (u .k * s .k) refl (q-row h (u .lt)) (frame-in _ _ (u .k) q z y (u .given) hq hz)
+      q-row-some i q z y (inr u) hq hz = pops-in m h po (pops .fit) _ _ u hz
 
-    pub p-empty : (t a : ℕ) {b : Pass} (put : Bool) → ¬ SomeIn m (pFrom s t a) (s .k) → Swept (PUses s n st pu t a) put b b m m
-    p-empty t a put = swept-empty _ put (p-in t a)
+      pub q-row-empty : {i : ℕ} → i < s .n * s .k → {b : Pass} (put : Bool) → ¬ SomeIn m (s .q + i * (s .f * s .k)) (s .f * s .k)
+          → Swept (QRow s n po i) put b b m m
+      q-row-empty {i} l put empty =
+          swept-empty (qFrom s (i / s .k) (i % s .k)) put (q-row-some i)
+          (subst (λ x. SomeIn m x (s .f * s .k) → ⊥) (sym (q-begins h l)) empty)
 
-    q-in : (t a q z y : ℕ) → QUses s n po t a q z y → Has m q → Has m z → SomeIn m (qFrom s t a) (s .f * s .k)
-    q-in t a q z y (inl u) hq hz =
-        some-part _ _ (u .k * s .k) refl (q-row (given .plan) (u .lt)) (frame-in (given .plan) t a (u .k) q z y (u .given) hq hz)
-    q-in t a q z y (inr u) hq hz =
-        let r = given .pops .fit (u .k) (u .lt) in
-        let d = rowOf po (u .k) .u * s .k in
-        some-part _ _ d refl (q-row (given .plan) (r .u)) (some-at _ _ (pair-lt (given .plan) (r .g) (r .l)) (u .given .1 .1) hz)
-
-    pub q-empty : (t a : ℕ) {b : Pass} (put : Bool) → ¬ SomeIn m (qFrom s t a) (s .f * s .k) → Swept (QUses s n po t a) put b b m m
-    q-empty t a put = swept-empty _ put (q-in t a)
+      -- no frames, no Q facts
+      pub no-frames : s .f ≡ 0 → {b : Pass} (put : Bool) → Swept (QRows s n po) put b b m m
+      no-frames e put =
+          swept-idle put λ y l.
+          let u = l .given in
+          let v = q-row-some (u .k) _ _ _ (u .given) (l .has-q) (l .has-x) in
+          let z = ap (λ f. f * s .k) e in
+          absurd (omega (arith, v .lt))

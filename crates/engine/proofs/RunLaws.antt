@@ -2,7 +2,7 @@
 -- marks and what is left are together one more than the budget, all along.
 -- Assumes nothing.
 use mathlib.Core.Path.{_≡_, refl, sym, subst, _∙_}
-use mathlib.Core.Bool.{false}
+use mathlib.Core.Bool.{true, false}
 use mathlib.Core.List.{List}
 use Prim.Native.Nat.{ℕ, suc, _+_, _<_, _≤_}
 use native.Mathlib.Omega.{arith}
@@ -14,9 +14,10 @@ use Rattle.store.specs.declared.rows.RowCounts.{RowCounts}
 use Rattle.store.specs.Marking.{room, Clear}
 use Rattle.store.specs.Plans.{planOf}
 use Rattle.store.proofs.PlanIsModel.{w-is}
-use Rattle.engine.specs.declared.lines.Pass.{Pass}
-use Rattle.engine.specs.RuleUses.{AllUses}
-use Rattle.engine.specs.Passing.{Looked, Swept, looks, Settled}
+use Rattle.uses.specs.declared.lines.Pass.{Pass}
+use Rattle.engine.specs.AllUses.{AllUses}
+use Rattle.uses.specs.Passing.{Looked}
+use Rattle.engine.specs.Working.{Settled, Worked, looked, settled}
 use Rattle.engine.specs.Given.{RowsOf, StartOf}
 use Rattle.engine.specs.Starting.{begun}
 use Rattle.engine.specs.Answers.{Exceeds, Confirmed}
@@ -69,10 +70,13 @@ module _ {T : Table} {s : Plan} {n : RowCounts} {st pu po : List ℕ} (rows : Ro
           omega arith,
         )
 
--- ---- a pass that looks
+-- ---- work that puts, and work that looks
 
-pub swept-looks : {A : ℕ → ℕ → ℕ → Type 0} {b r : Pass} {m m′ : List ℕ} → Swept A false b r m m′ → Looked A b r m × (m′ ≡ m)
-swept-looks (looks k) = (k, refl)
+pub worked-settled : {A : ℕ → ℕ → ℕ → Type 0} {b r : Pass} {m m′ : List ℕ} → Worked A true b r m m′ → Settled A b r m m′
+worked-settled (settled s) = s
+
+pub worked-looked : {A : ℕ → ℕ → ℕ → Type 0} {b r : Pass} {m m′ : List ℕ} → Worked A false b r m m′ → Looked A b r m × (m′ ≡ m)
+worked-looked (looked k) = (k, refl)
 
 pub confirmed : {T : Table} {s : Plan} {n : RowCounts} {st pu po : List ℕ} → RowsOf T s n st pu po → (m : List ℕ) {b r : Pass} → b .best ≡ s .w
     → 0 < b .left → Looked (AllUses s n st pu po) b r m → Confirmed T m (r .best)

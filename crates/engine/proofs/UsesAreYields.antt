@@ -19,16 +19,17 @@ use Rattle.store.specs.Marking.{Has}
 use Rattle.store.specs.Plans.{planOf}
 use Rattle.store.specs.Reading.{Reads}
 use Rattle.store.proofs.MarkLaws.{marked-has}
-use Rattle.store.proofs.PlanIsModel.{pos-p-row, pos-q-row}
-use Rattle.engine.specs.declared.lines.Pass.{Pass}
-use Rattle.engine.specs.Uses.{Uses, Lacks}
-use Rattle.engine.specs.RuleUses.{PUses, FrameUses, QUses, ThreadUses, AllUses}
-use Rattle.engine.specs.Passing.{Looked}
+use Rattle.store.proofs.PlanIsModel.{planned, pos-p-row, pos-q-row}
+use Rattle.uses.specs.declared.lines.Pass.{Pass}
+use Rattle.uses.specs.Uses.{Uses, Lacks}
+use Rattle.engine.specs.AllUses.{PUses, FrameUses, QUses, AllUses}
+use Rattle.uses.specs.Passing.{Looked}
 use Rattle.engine.specs.Answers.{Confirmed, lacking, whole}
-use Rattle.engine.proofs.Bridge.{Used, upto-at, used-to, used-inl, used-inr, used-lacks, Yielded, marked-at, p-stands, q-stands}
-use Rattle.engine.proofs.BridgeRows.{step-used, step-yields, push-used, push-yields, pop-used, pop-yields}
-use Rattle.engine.proofs.BridgeCalls.{call-used, call-yields}
-use Rattle.engine.proofs.BridgeGuarantees.{moved-used, moved-yields}
+use Rattle.engine.proofs.RowNumbers.{row-thread, row-pair, row-of}
+use Rattle.uses.proofs.Bridge.{Used, upto-at, used-to, used-inl, used-inr, used-lacks, Yielded, marked-at, p-stands, q-stands}
+use Rattle.uses.proofs.BridgeRows.{step-used, step-yields, push-used, push-yields, pop-used, pop-yields}
+use Rattle.uses.proofs.BridgeCalls.{call-used, call-yields}
+use Rattle.uses.proofs.BridgeGuarantees.{moved-used, moved-yields}
 
 module _ {T : Table} (sound : Sound T) {n : RowCounts} {st pu po : List ℕ} (reads : Reads T n st pu po) (m : List ℕ) where
   abbrev s : Plan
@@ -40,10 +41,10 @@ module _ {T : Table} (sound : Sound T) {n : RowCounts} {st pu po : List ℕ} (re
   -- ---- from uses of the rules: on the P facts, the Q facts or the Q facts of one frame, in the row of a marked fact
 
   on-P : {t a b g l y : ℕ} → Marked T m (P t a b g l) → Used (PUses s n st pu t (a * T .L + b)) m y → Used All m y
-  on-P p = used-to (λ q x u. upto-at _ (p .fits .0) (inl (upto-at _ (digits-lt (p .fits .1) (p .fits .2)) u)))
+  on-P p = used-to (λ q x u. inl (row-of (PUses s n st pu) (p .fits .0) (digits-lt (p .fits .1) (p .fits .2)) u))
 
   on-Q : {t a b f g l y : ℕ} → Marked T m (Q t a b f g l) → Used (QUses s n po t (a * T .L + b)) m y → Used All m y
-  on-Q p = used-to (λ q x u. upto-at _ (p .fits .0) (inr (upto-at _ (digits-lt (p .fits .1) (p .fits .2)) u)))
+  on-Q p = used-to (λ q x u. inr (row-of (QUses s n po) (p .fits .0) (digits-lt (p .fits .1) (p .fits .2)) u))
 
   on-frame : {t a b f g l y : ℕ} → Marked T m (Q t a b f g l) → Used (FrameUses s t (a * T .L + b) f) m y → Used All m y
   on-frame p u = on-Q p (used-to (λ q x v. inl (upto-at _ (p .fits .3) v)) u)
@@ -77,11 +78,8 @@ module _ {T : Table} (sound : Sound T) {n : RowCounts} {st pu po : List ℕ} (re
     of-Q (inr u) = pop-yields sound ah hx t (reads .pops) u
 
   pub used-yields : (q x y : ℕ) → All q x y → Has m q → Has m x → Yielded T m y
-  used-yields q x y u hq hx = go (u .given)
-    where
-      go : ThreadUses s n st pu po (u .k) q x y → Yielded T m y
-      go (inl v) = of-P hq hx (u .lt) (v .k) (v .lt) (v .given)
-      go (inr v) = of-Q hq hx (u .lt) (v .k) (v .lt) (v .given)
+  used-yields q x y (inl u) hq hx = of-P hq hx (row-thread (planned T sound) (u .lt)) _ (row-pair (planned T sound) (u .lt)) (u .given)
+  used-yields q x y (inr u) hq hx = of-Q hq hx (row-thread (planned T sound) (u .lt)) _ (row-pair (planned T sound) (u .lt)) (u .given)
 
   -- what lacks at positions is what is missing by the rules
   pub lacks-yields : {y : ℕ} → Lacks All m y → Yielded T m y

@@ -3,14 +3,16 @@
 --   StartFacts  where the start facts stand
 --   Answers     what a run and the smallest missing position answer
 -- What only private functions cite:
---   Uses        sets of uses of rules at positions
---   Passing     what a pass over such a set does
---   RuleUses    the uses of each rule
+--   InRange     what is given is in range
+--   AllUses     the uses of all rules
+--   Working     what the work comes to
+--   Turns       turns of the rows of P facts
 --   Starting    the memory with the start facts
 pub mod Given
 pub mod StartFacts
 pub mod Answers
-pub mod Uses
-pub mod Passing
-pub mod RuleUses
+pub mod InRange
+pub mod AllUses
+pub mod Working
+pub mod Turns
 pub mod Starting

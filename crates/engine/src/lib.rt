@@ -1,13 +1,9 @@
-// The engine: the least relations of a table, worked out in lent memory by passes over the uses of the rules.
-//   lines       one use of a rule, a line of uses, a block of lines
-//   row_rules   rules 4, 5 and 7: the rules with a row
-//   calls       rule 6
-//   guarantees  rules 2 and 3
-//   passes      a pass over every use, passes until nothing lacks
-//   run         rule 1, the budget and the answer; the smallest missing position
-mod calls;
-mod guarantees;
-mod lines;
-mod passes;
-mod row_rules;
+// The engine: the least relations of a table, worked out in lent memory by the uses of the rules.
+//   q_facts  rules 3, 6 and 7 on all Q facts
+//   turns    whose turn it is: rules 5 and 2 on a row of P facts, and which row is next
+//   work     the check's own list of step rows: rule 4 in each turn, until nothing lacks
+//   run      rule 1, the budget and the answer; the smallest missing position
+mod q_facts;
 pub mod run;
+mod turns;
+mod work;

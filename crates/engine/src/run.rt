@@ -4,13 +4,12 @@ ghost use Prim.Native.Nat.{_<_, _≤_};
 ghost use Rattle.files.specs.Table.{Table};
 ghost use Rattle.store.specs.Marking.{room};
 ghost use Rattle.store.specs.Plans.{Planned};
-ghost use Rattle.engine.specs.Given.{Given, StartIn, RowsOf, StartOf};
+ghost use Rattle.engine.specs.Given.{RowsOf, StartOf};
+ghost use Rattle.engine.specs.InRange.{StartIn};
 ghost use Rattle.engine.specs.Answers.{Ran, Confirmed};
 ghost use Rattle.engine.specs.StartFacts.{startAt};
 ghost use Rattle.engine.specs.Starting.{begun};
-use crate::lines::Pass;
-use crate::passes::settle;
-use crate::passes::sweep;
+use crate::work::work;
 use store::marks::clear;
 use store::marks::put_mark;
 use store::plan::Plan;
@@ -18,6 +17,7 @@ use store::plan::p_at;
 use store::plan::pair_of;
 use store::rows::RowCounts;
 use store::rows::cell;
+use uses::lines::Pass;
 
 // The number of facts, or that there are more than the budget.
 pub enum Answer {
@@ -62,7 +62,7 @@ pub fn run(
     mem: &mut [u8],
     budget: usize,
 ) -> Answer
-    requires { ⌜ Given s counts (now steps) (now pushes) (now pops) × StartIn s g (now locals) × (room (now mem) ≡ s .w) ⌝ }
+    requires { ⌜ ((T : Table) × RowsOf T s counts (now steps) (now pushes) (now pops) × StartOf T g (now locals)) × (room (now mem) ≡ s .w) ⌝ }
     ensures { λ r. ⌜ ((T : Table) → RowsOf T s counts (now (steps .entry)) (now (pushes .entry)) (now (pops .entry))
         → StartOf T g (now (locals .entry)) → Ran T budget r (now (mem .exit))) ⌝ }
 {
@@ -78,7 +78,7 @@ pub fn run(
         best: s.w,
         left: left,
     };
-    let end = settle(s, counts, steps, pushes, pops, mem, pass);
+    let end = work(s, counts, steps, pushes, pops, mem, true, pass);
     if end.left == 0 {
         clear(mem);
         return Answer::Over;
@@ -98,12 +98,12 @@ pub fn missing(
     pops: &[u8],
     mem: &mut [u8],
 ) -> usize
-    requires { ⌜ Given s counts (now steps) (now pushes) (now pops) × (s .w ≤ room (now mem)) ⌝ }
+    requires { ⌜ ((T : Table) × RowsOf T s counts (now steps) (now pushes) (now pops)) × (s .w ≤ room (now mem)) ⌝ }
     ensures found { λ r. ⌜ ((T : Table) → RowsOf T s counts (now (steps .entry)) (now (pushes .entry)) (now (pops .entry))
         → Confirmed T (now (mem .entry)) r) ⌝ }
     ensures kept { λ _. ⌜ now (mem .exit) ≡ now (mem .entry) ⌝ }
 {
     let pass = Pass { best: s.w, left: 1 };
-    let r = sweep(s, counts, steps, pushes, pops, mem, false, pass);
+    let r = work(s, counts, steps, pushes, pops, mem, false, pass);
     r.best
 }

@@ -15,7 +15,6 @@ use Rattle.model.proofs.Unique.{first-same, finding-same}
 use Rattle.findings.specs.declared.find.Finding.{Finding}
 use Rattle.findings.specs.declared.find.Finding.the-variants.{Accepted, LacksStart, NotClosed, AllowsError}
 use Rattle.findings.specs.Found.{Started, lacking, whole, findingOf}
-use Rattle.findings.proofs.Blank.{blank, blank-sound, blank-plan, blank-starts}
 use Rattle.findings.proofs.starts.lacking_start.Reads as lacking-start
 use Rattle.findings.proofs.starts.lacking_start.Kinds as lacking-start-kinds
 use Rattle.findings.proofs.find.find.Reads as find
@@ -50,13 +49,7 @@ found-same x y f g = sym (case-of-finding x) ∙ ap caseOf (finding-same f g) �
 pub lacking-start-fixes : (κs : Lfts 2) (a : Dens κs lacking-start-kinds.ps) (x x′ : ℕ)
     (s s′ : AtExit (endedOf 2 lacking-start-kinds.ps lacking-start-kinds.r) κs)
     → lacking-start.Pre κs a → lacking-start.Post κs a x s → lacking-start.Post κs a x′ s′ → x ≡ x′
-lacking-start-fixes κs a x x′ s s′ (planned, first, _) p q =
-    let g = a .1 .0 in
-    let locals = now (a .1 .1 .0) in
-    let sound = blank-sound (a .0) g locals planned first in
-    let plan = blank-plan (a .0) g locals planned in
-    let of = blank-starts (a .0) g locals in
-    started-same (p _ sound plan of) (q _ sound plan of)
+lacking-start-fixes κs a x x′ s s′ ((T, sound, plan, of), _) p q = started-same (p T sound plan of) (q T sound plan of)
 
 pub find-fixes : (κs : Lfts 5) (a : Dens κs find-kinds.ps) (x x′ : Finding)
     (s s′ : AtExit (endedOf 5 find-kinds.ps find-kinds.r) κs) → find.Pre κs a → find.Post κs a x s → find.Post κs a x′ s′

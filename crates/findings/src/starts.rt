@@ -3,8 +3,8 @@ ghost use mathlib.Core.Path.{_≡_};
 ghost use Prim.Native.Nat.{_≤_};
 ghost use Rattle.files.specs.Table.{Table, Sound};
 ghost use Rattle.store.specs.Marking.{room};
-ghost use Rattle.store.specs.Plans.{Planned, planOf};
-ghost use Rattle.engine.specs.Given.{StartIn, StartOf};
+ghost use Rattle.store.specs.Plans.{planOf};
+ghost use Rattle.engine.specs.Given.{StartOf};
 ghost use Rattle.findings.specs.Found.{Started};
 use engine::run::start_at;
 use store::marks::has;
@@ -12,7 +12,7 @@ use store::plan::Plan;
 
 // The smallest thread whose start fact has no mark, or the number of threads if each has one.
 pub fn lacking_start(s: Plan, g: usize, locals: &[u8; 4], mem: &[u8]) -> usize
-    requires { ⌜ Planned s × StartIn s g (now locals) × (s .w ≤ room (now mem)) ⌝ }
+    requires { ⌜ ((T : Table) × Sound T × (s ≡ planOf T) × StartOf T g (now locals)) × (s .w ≤ room (now mem)) ⌝ }
     ensures { λ r. ⌜ ((T : Table) → Sound T → s ≡ planOf T → StartOf T g (now (locals .entry)) → Started T (now (mem .entry)) r) ⌝ }
 {
     let n = s.n;

@@ -1,7 +1,7 @@
 -- The rows that the table reader leaves in memory are the table's: what the engine and the verdict ask of their lent rows.
 --     rows-same      the rows of a list in memory are the list's
---     stored-rows, stored-given      so the lent rows are the table's, and in range
---     stored-start, stored-begins    and so are the header's initial stores
+--     stored-rows                    so the lent rows are the table's
+--     stored-begins                  and so are the header's initial stores
 --     stored-errors                  and the error rows
 --     stored-room, stored-plan, …    and the sizes
 -- Assumes nothing.
@@ -22,8 +22,7 @@ use Rattle.store.specs.declared.rows.Row.{Row}
 use Rattle.store.specs.declared.rows.RowCounts.{RowCounts}
 use Rattle.store.specs.Reading.{rowOf, stepOf, pushOf, popOf, Nth, Same, Reads}
 use Rattle.store.specs.Plans.{sized, planOf}
-use Rattle.engine.specs.Given.{Given, StartIn, RowsOf, StartOf}
-use Rattle.engine.proofs.GivenLaws.{rows-given, start-given}
+use Rattle.engine.specs.Given.{RowsOf, StartOf}
 use Rattle.verdict.specs.Judged.{ErrorsOf}
 use Rattle.rules.specs.Lent.{Laid, Stored}
 
@@ -109,13 +108,18 @@ module _ {T : Table} {h : Header} {k : Counts} {st pu po er : List ℕ} (s : Sto
       }
 
   pub stored-rows : {p : Plan} → p ≡ planOf T → RowsOf T p counts st pu po
-  stored-rows e = record { sound = s .sound; plan = e; reads = reads }
-
-  pub stored-given : {p : Plan} → p ≡ planOf T → Given p counts st pu po
-  stored-given e =
-      rows-given (stored-rows e) (laid-long (s .sound .steps) (s .steps) (ap (λ (x : Counts). x .steps) (s .counts)))
-      (laid-long (s .sound .pushes) (s .pushes) (ap (λ (x : Counts). x .pushes) (s .counts)))
-      (laid-long (s .sound .pops) (s .pops) (ap (λ (x : Counts). x .pops) (s .counts)))
+  stored-rows e =
+      record {
+        sound = s .sound;
+        plan = e;
+        reads = reads;
+        count = ap (λ (x : Counts). x .steps) (s .counts);
+        long = (
+          laid-long (s .sound .steps) (s .steps) (ap (λ (x : Counts). x .steps) (s .counts)),
+          laid-long (s .sound .pushes) (s .pushes) (ap (λ (x : Counts). x .pushes) (s .counts)),
+          laid-long (s .sound .pops) (s .pops) (ap (λ (x : Counts). x .pops) (s .counts)),
+        );
+      }
 
   -- the error rows, and the failed store
   pub stored-errors : {p : Plan} → p ≡ planOf T → ErrorsOf T p (h .failed) er (k .errors)
@@ -147,11 +151,12 @@ module _ {T : Table} {h : Header} {k : Counts} {st pu po er : List ℕ} (s : Sto
   start = ap (λ (x : Header). x .start) (s .header)
 
   pub stored-begins : StartOf T (h .start) (h .firsts)
-  stored-begins = record { shared = sym start; local = λ t i. sym (first-local t i) }
-
-  pub stored-start : {p : Plan} → p ≡ planOf T → StartIn p (h .start) (h .firsts)
-  stored-start e =
-      start-given (stored-rows s e) stored-begins (omega (arith, s .sound .n .1, ap (λ (x : Header). length (x .firsts)) (s .header)))
+  stored-begins =
+      record {
+        long = omega (arith, s .sound .n .1, ap (λ (x : Header). length (x .firsts)) (s .header));
+        shared = sym start;
+        local = λ t i. sym (first-local t i);
+      }
 
   -- ---- the sizes
 
@@ -165,13 +170,6 @@ module _ {T : Table} {h : Header} {k : Counts} {st pu po er : List ℕ} (s : Sto
   pub stored-sizes : (0 < h .sizes .threads) × (h .sizes .threads ≤ 4) × (0 < h .sizes .shared) × (h .sizes .shared ≤ 16)
       × (0 < h .sizes .locals) × (h .sizes .locals ≤ 16) × (h .sizes .frames ≤ 8)
   stored-sizes = rw (s .header) (s .sound .n .0, s .sound .n .1, s .sound .G .0, s .sound .G .1, s .sound .L .0, s .sound .L .1, s .sound .F)
-
-  -- the failed store and the count of error rows, in range
-  pub stored-failed : {p : Plan} → p ≡ planOf T → h .failed ≤ p .l
-  stored-failed e = rw (e, s .header) (s .sound .failed)
-
-  pub stored-count : k .errors ≤ mostErrors
-  stored-count = rw (s .counts) (s .sound .errors .count)
 
   pub stored-errors-long : 5 * k .errors ≤ length er
   stored-errors-long = omega (arith, laid-long (s .sound .errors) (s .errors) (ap (λ (x : Counts). x .errors) (s .counts)))

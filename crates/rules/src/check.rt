@@ -3,7 +3,7 @@ ghost use mathlib.Core.Path.{_≡_};
 ghost use Prim.Native.Nat.{_≤_};
 ghost use lib.ListN.{length, take, drop};
 ghost use Rattle.files.specs.Table.{Table};
-ghost use Rattle.engine.specs.Given.{Given, StartIn, RowsOf, StartOf};
+ghost use Rattle.engine.specs.Given.{RowsOf, StartOf};
 ghost use Rattle.engine.specs.Answers.{Ran};
 ghost use Rattle.rules.specs.Checking.{OfTable, Checked};
 ghost use Rattle.rules.specs.Lent.{Stored};
@@ -26,7 +26,7 @@ fn run_in(
     mem: &mut [u8],
     budget: usize,
 ) -> engine::run::Answer
-    requires { ⌜ Given s n (now steps) (now pushes) (now pops) × StartIn s g (now locals) × (s .w ≤ length (now mem)) ⌝ }
+    requires { ⌜ ((T : Table) × RowsOf T s n (now steps) (now pushes) (now pops) × StartOf T g (now locals)) × (s .w ≤ length (now mem)) ⌝ }
     ensures ran { λ r. ⌜ ((T : Table) → RowsOf T s n (now (steps .entry)) (now (pushes .entry)) (now (pops .entry))
         → StartOf T g (now (locals .entry)) → Ran T budget r (take (s .w) (now (mem .exit)))) ⌝ }
     ensures rest { λ _. ⌜ drop (s .w) (now (mem .exit)) ≡ drop (s .w) (now (mem .entry)) ⌝ }

@@ -6,9 +6,11 @@ use Prim.Native.Nat.{ℕ}
 use native.Mathlib.Omega.{arith}
 use borrow.Author.Needs.{needs}
 use Rattle.store.specs.Marking.{room}
-use Rattle.engine.proofs.PassLaws.{puts-le}
+use Rattle.uses.proofs.PassLaws.{puts-le}
+use Rattle.engine.specs.InRange.{Given}
+use Rattle.engine.proofs.GivenLaws.{rows-given, start-given}
 use Rattle.engine.proofs.StartLaws.{begun-room}
-use Rattle.engine.proofs.RunLaws.{over-at-start, over-when-spent, done-when-settled}
+use Rattle.engine.proofs.RunLaws.{worked-settled, over-at-start, over-when-spent, done-when-settled}
 use Rattle.engine.proofs.run.run.Statement.{statement}
 use Rattle.engine.proofs.run.run.Tie as tie
 
@@ -24,7 +26,11 @@ module _ (c : tie.After-start) where
   Z = cleared .clear .last .0
 
   long : room Z ≡ entry .args .s .w
-  long = cleared .clear .kept .0 ∙ entry .pre .2
+  long = cleared .clear .kept .0 ∙ entry .pre .1
+
+-- what is given is in range
+given : (c : tie.Start) → Given (c .args .s) (c .args .counts) (c .args .steps .now) (c .args .pushes .now) (c .args .pops .now)
+given c = rows-given (c .pre .0 .1)
 
 clear-requires : tie.Need-clear-requires
 clear-requires c κs = search needs
@@ -32,11 +38,11 @@ clear-requires c κs = search needs
 start-requires : tie.Need-start-requires
 start-requires c κs =
     let at = c .before .before .before in
-    let p = at .before .before .before .before .before .before .before .pre in
-    (p .0 .plan, p .1, omega (arith, at .clear .kept .0, p .2))
+    let first = at .before .before .before .before .before .before .before in
+    (given first .plan, start-given (first .pre .0 .1 .sound) (first .pre .0 .1 .plan) (first .pre .0 .2), omega (arith, at .clear .kept .0, first .pre .1))
 
 sub-started : tie.Need-sub-started
-sub-started c = let at = c .before .before .before in omega (arith, entry at .pre .0 .plan .n-pos)
+sub-started c = let at = c .before .before .before in omega (arith, given (entry at) .plan .n-pos)
 
 clear-requires-2 : tie.Need-clear-requires-2
 clear-requires-2 c κs = search needs
@@ -50,7 +56,7 @@ returns c =
     let last = c .before .before in
     let test = last .before .before in
     let at = test .before .before .before .before in
-    let n = entry at .pre .0 .plan .n-pos in (
+    let n = given (entry at) .plan .n-pos in (
       last .clear2 .ensures,
       over-at-start rows first (Z at) (long at) (cleared at .clear .ensures) (at .start .ensures) (omega (arith, test .if1 .taken)),
     )
@@ -58,11 +64,11 @@ returns c =
 sub-left : tie.Need-sub-left
 sub-left c = search needs
 
-settle-requires : tie.Need-settle-requires
-settle-requires c κs =
+work-requires : tie.Need-work-requires
+work-requires c κs =
     let at = c .before .before .before .before .before in
     let a = entry at .args in (
-      entry at .pre .0,
+      given (entry at),
       omega (arith, ap room (at .start .ensures), begun-room (a .s) (a .g) (a .locals .now) (a .s .n) (Z at), long at),
     )
 
@@ -80,9 +86,9 @@ returns-2 c =
     let work = test .before .before .before .before in
     let within = work .before .before in
     let at = within .before .before .before .before in
-    let n = entry at .pre .0 .plan .n-pos in (
+    let n = given (entry at) .plan .n-pos in (
       last .clear3 .ensures,
-      over-when-spent rows first (Z at) (long at) (cleared at .clear .ensures) (at .start .ensures) (work .settle .ensures)
+      over-when-spent rows first (Z at) (long at) (cleared at .clear .ensures) (at .start .ensures) (worked-settled (work .work .ensures))
           (omega (arith, within .if1 .left)) (test .if2 .taken),
     )
 
@@ -90,7 +96,7 @@ sub-spare : tie.Need-sub-spare
 sub-spare c = search needs
 
 sub-count : tie.Need-sub-count
-sub-count c = let work = c .before .before .before .before .before in omega (arith, puts-le (work .settle .ensures .puts))
+sub-count c = let work = c .before .before .before .before .before in omega (arith, puts-le (worked-settled (work .work .ensures) .puts))
 
 same-length-3 : tie.Need-same-length-3
 same-length-3 c = search needs
@@ -101,10 +107,10 @@ returns-3 c =
     let work = c .before .before .before .before .before in
     let within = work .before .before in
     let at = within .before .before .before .before in
-    let n = entry at .pre .0 .plan .n-pos in
-    let less = puts-le (work .settle .ensures .puts) in
+    let n = given (entry at) .plan .n-pos in
+    let less = puts-le (worked-settled (work .work .ensures) .puts) in
     let some = c .before .if2 .left in
-    done-when-settled rows first (Z at) (long at) (cleared at .clear .ensures) (at .start .ensures) (work .settle .ensures)
+    done-when-settled rows first (Z at) (long at) (cleared at .clear .ensures) (at .start .ensures) (worked-settled (work .work .ensures))
     (omega (arith, within .if1 .left)) (omega arith) (omega arith)
 
 pub run-spec : {M : Type 1} → statement M
@@ -118,7 +124,7 @@ run-spec =
     same-length
     returns
     sub-left
-    settle-requires
+    work-requires
     clear-requires-3
     same-length-2
     returns-2

@@ -13,8 +13,8 @@ use Rattle.model.specs.Memory.{Marked}
 use Rattle.store.specs.Plans.{planOf}
 use Rattle.verdict.specs.Judged.{Judged}
 use Rattle.rules.specs.Lent.{Stored}
-use Rattle.rules.proofs.LentRows.{stored-rows, stored-given, stored-start, stored-begins, stored-errors}
-use Rattle.rules.proofs.LentRows.{stored-plan, stored-sizes, stored-failed, stored-count, stored-errors-long}
+use Rattle.rules.proofs.LentRows.{stored-rows, stored-begins, stored-errors}
+use Rattle.rules.proofs.LentRows.{stored-plan, stored-sizes, stored-errors-long}
 use Rattle.rules.proofs.Outcomes.{w-by}
 use Rattle.findings.specs.Found.{Started}
 use Rattle.findings.proofs.FoundLaws.{start-lacks, starts-marked, position-misses, closed-marked, nothing-found, row-allows}
@@ -91,7 +91,8 @@ cast-start c = search needs
 lacking-start-requires : tie.Need-lacking-start-requires
 lacking-start-requires c κs =
     let a : tie.After-plan-by = c .before .before .before .before in
-    (a .plan-by .ensures .1, stored-start (start a .pre .1) (own-plan a), enough a)
+    let own = start a .pre .1 in
+    ((_, own .sound, own-plan a, stored-begins own), enough a)
 
 same-length : tie.Need-same-length
 same-length c = search needs
@@ -104,7 +105,7 @@ returns c =
 missing-requires : tie.Need-missing-requires
 missing-requires c κs =
     let a = plan (first (c .before .before .before .before)) in
-    (stored-given (start a .pre .1) (own-plan a), enough a)
+    ((_, stored-rows (start a .pre .1) (own-plan a)), enough a)
 
 same-length-2 : tie.Need-same-length-2
 same-length-2 c = search needs
@@ -125,10 +126,8 @@ judge-requires c κs =
     let m = second (c .before .before .before) in
     let a = plan (first (started m)) in
     let own = start a .pre .1 in (
-      a .plan-by .ensures .1,
-      stored-failed own (own-plan a),
+      (_, stored-errors own (own-plan a)),
       stored-errors-long own,
-      stored-count own,
       omega (arith, enough a, ap length (m .missing .ensures .1)),
     )
 

@@ -8,6 +8,7 @@ use borrow.Author.Needs.{needs}
 use borrow.Author.Tests.{not-true, not-false}
 use Rattle.store.specs.Marking.{Has, Is}
 use Rattle.store.proofs.MarkLaws.{is-true, is-false}
+use Rattle.engine.proofs.GivenLaws.{plan-given, start-given}
 use Rattle.engine.specs.StartFacts.{startAt}
 use Rattle.findings.proofs.StartMarks.{first-lacking, none-lacking}
 use Rattle.findings.proofs.starts.lacking_start.Statement.{statement}
@@ -33,10 +34,12 @@ loop-holds : tie.Need-loop-holds Inv-loop μ-loop
 loop-holds c = (omega arith, λ u l. absurd (omega arith))
 
 start-at-requires : tie.Need-start-at-requires Inv-loop μ-loop
-start-at-requires c κs = search needs
+start-at-requires c κs =
+    let (T, sound, plan, first) = start (c .before .before) .pre .0 in
+    (plan-given sound plan, start-given sound plan first, c .before .loop-test .taken)
 
 has-requires : tie.Need-has-requires Inv-loop μ-loop
-has-requires c κs = omega (arith, c .start-at .ensures .1, start (c .before .before .before) .pre .2)
+has-requires c κs = omega (arith, c .start-at .ensures .1, start (c .before .before .before) .pre .1)
 
 returns : tie.Need-returns Inv-loop μ-loop
 returns c =

@@ -9,8 +9,8 @@ use lib.ListN.{length}
 use Rattle.files.specs.Table.{Table}
 use Rattle.store.specs.Plans.{planOf}
 use Rattle.rules.specs.Lent.{Stored}
-use Rattle.rules.proofs.LentRows.{stored-rows, stored-given, stored-start, stored-begins, stored-errors}
-use Rattle.rules.proofs.LentRows.{stored-room, stored-plan, stored-sizes, stored-failed, stored-count, stored-errors-long}
+use Rattle.rules.proofs.LentRows.{stored-rows, stored-begins, stored-errors}
+use Rattle.rules.proofs.LentRows.{stored-room, stored-plan, stored-sizes, stored-errors-long}
 use Rattle.rules.proofs.Outcomes.{w-by, answer-short, answer-over, answer-done}
 use Rattle.rules.proofs.check.check_stored.Statement.{statement}
 use Rattle.rules.proofs.check.check_stored.Tie as tie
@@ -64,7 +64,7 @@ cast-failed : tie.Need-cast-failed
 cast-failed c = search needs
 
 run-in-requires : tie.Need-run-in-requires
-run-in-requires c κs = (stored-given (own c) (own-plan c), stored-start (own c) (own-plan c), enough c)
+run-in-requires c κs = ((_, stored-rows (own c) (own-plan c), stored-begins (own c)), enough c)
 
 enum-known-count : tie.Need-enum-known-count
 enum-known-count c = search needs
@@ -73,10 +73,8 @@ judge-requires : tie.Need-judge-requires
 judge-requires c κs =
     let r : tie.After-run-in = c .before .before .before .before .before .before .before in
     let a : tie.After-run-in-arg = r .before in (
-      plan a .plan-by .ensures .1,
-      stored-failed (own a) (own-plan a),
+      (_, stored-errors (own a) (own-plan a)),
       stored-errors-long (own a),
-      stored-count (own a),
       omega (arith, enough a, r .run-in .kept .1 .1 .1 .1 .1 .1 .1 .0),
     )
 

@@ -14,7 +14,7 @@ start c = c .before .before .before .before .before .before
 
 -- as many bytes are lent as the plan has marks
 part-long : (c : tie.After-run-arg5) → length (take (start c .args .s .w) (start c .args .mem .now)) ≡ start c .args .s .w
-part-long c = length-take-le (start c .args .s .w) (start c .args .mem .now) (start c .pre .2)
+part-long c = length-take-le (start c .args .s .w) (start c .args .mem .now) (start c .pre .1)
 
 slice-relend-prefix-run : tie.Need-slice-relend-prefix-run
 slice-relend-prefix-run c = search needs
@@ -23,7 +23,7 @@ slice-aggregate-run : tie.Need-slice-aggregate-run
 slice-aggregate-run c = simp length-take (omega arith)
 
 run-requires : tie.Need-run-requires
-run-requires c κs = (start c .pre .0, start c .pre .1, part-long c)
+run-requires c κs = (start c .pre .0, part-long c)
 
 same-length : tie.Need-same-length
 same-length c = search needs

@@ -1,0 +1,16 @@
+-- The rows are at most 1,024, so their number fits.
+-- Assumes nothing.
+use native.Mathlib.Omega.{arith}
+use borrow.Author.Needs.{needs}
+use Rattle.engine.proofs.RowNumbers.{rows-small}
+use Rattle.engine.proofs.turns.goes_on.Statement.{statement}
+use Rattle.engine.proofs.turns.goes_on.Tie as tie
+
+mul-result : tie.Need-mul-result
+mul-result c = omega (arith, rows-small (c .before .pre))
+
+returns : tie.Need-returns
+returns c = search needs
+
+pub goes-on-spec : {M : Type 1} → statement M
+goes-on-spec = tie.close (tie.spec mul-result returns)

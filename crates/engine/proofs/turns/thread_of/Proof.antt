@@ -1,0 +1,16 @@
+-- The thread of a row that there is.
+-- Assumes nothing.
+use mathlib.Core.Path.{refl}
+use native.Mathlib.Omega.{arith}
+use Rattle.engine.proofs.RowNumbers.{k-pos, row-thread}
+use Rattle.engine.proofs.turns.thread_of.Statement.{statement}
+use Rattle.engine.proofs.turns.thread_of.Tie as tie
+
+div-result : tie.Need-div-result
+div-result c = let (plan, row) = c .before .before .pre in omega (arith, k-pos plan)
+
+returns : tie.Need-returns
+returns c = let (plan, row) = c .before .before .pre in (refl, row-thread plan row)
+
+pub thread-of-spec : {M : Type 1} → statement M
+thread-of-spec = tie.close (tie.spec div-result returns)

@@ -1,0 +1,96 @@
+// A pass over every use on Q facts: rules 3, 6 and 7, row of facts by row of facts. A row with no mark is passed over.
+ghost use Prim.Native.Nat.{_*_, _<_, _≤_};
+ghost use Rattle.store.specs.Marking.{room};
+ghost use Rattle.store.specs.Plans.{Planned};
+ghost use Rattle.uses.specs.Ranges.{RowsIn};
+ghost use Rattle.uses.specs.Uses.{Upto};
+ghost use Rattle.uses.specs.Passing.{Swept};
+ghost use Rattle.engine.specs.AllUses.{FrameUses, QRow, QRows};
+use store::marks::some;
+use store::plan::Plan;
+use store::plan::q_from;
+use store::rows::RowCounts;
+use uses::calls::calls;
+use uses::guarantees::guarantees;
+use uses::lines::Pass;
+use uses::row_rules::Kind;
+use uses::row_rules::rows_of;
+
+// The Q facts of t from pair a with frame f, but for rule 7.
+fn frame(s: Plan, t: usize, a: usize, f: usize, mem: &mut [u8], put: bool, pass: Pass) -> Pass
+    requires { ⌜ Planned s × (t < s .n) × (a < s .k) × (f < s .f) × (s .w ≤ room (now mem)) ⌝ }
+    ensures { λ r. ⌜ Swept (FrameUses s t a f) put pass r (now (mem .entry)) (now (mem .exit)) ⌝ }
+{
+    let y = q_from(s, t, a) + f * s.k;
+    if !some(mem, y, s.k) {
+        return pass;
+    }
+    let called = calls(s, t, y, mem, put, pass);
+    guarantees(s, t, y, mem, put, called)
+}
+
+// The Q facts of t from pair a with each frame, but for rule 7.
+fn frames(s: Plan, t: usize, a: usize, mem: &mut [u8], put: bool, pass: Pass) -> Pass
+    requires { ⌜ Planned s × (t < s .n) × (a < s .k) × (s .w ≤ room (now mem)) ⌝ }
+    ensures { λ r. ⌜ Swept (Upto (FrameUses s t a) (s .f)) put pass r (now (mem .entry)) (now (mem .exit)) ⌝ }
+{
+    let n = s.f;
+    let mut sofar = pass;
+    let mut f: usize = 0;
+    while f < n {
+        sofar = frame(s, t, a, f, mem, put, sofar);
+        f += 1;
+    }
+    sofar
+}
+
+// Row i of the Q facts: those of one thread from one pair.
+fn q_row(
+    s: Plan,
+    counts: RowCounts,
+    pops: &[u8],
+    i: usize,
+    mem: &mut [u8],
+    put: bool,
+    pass: Pass,
+) -> Pass
+    requires { ⌜ Planned s × RowsIn s (s .f) (s .l) (now pops) (counts .pops) × (i < s .n * s .k) × (s .w ≤ room (now mem)) ⌝ }
+    ensures { λ r. ⌜ Swept (QRow s counts (now (pops .entry)) i) put pass r (now (mem .entry)) (now (mem .exit)) ⌝ }
+{
+    let n = s.f * s.k;
+    if !some(mem, s.q + i * n, n) {
+        return pass;
+    }
+    let t = i / s.k;
+    let a = i % s.k;
+    let framed = frames(s, t, a, mem, put, pass);
+    rows_of(Kind::Pop, s, t, a, pops, counts.pops, mem, put, framed)
+}
+
+// All Q facts. A table without frames has none.
+pub fn q_rows(
+    s: Plan,
+    counts: RowCounts,
+    pops: &[u8],
+    mem: &mut [u8],
+    put: bool,
+    pass: Pass,
+) -> Pass
+    requires { ⌜ Planned s × RowsIn s (s .f) (s .l) (now pops) (counts .pops) × (s .w ≤ room (now mem)) ⌝ }
+    ensures { λ r. ⌜ Swept (QRows s counts (now (pops .entry))) put pass r (now (mem .entry)) (now (mem .exit)) ⌝ }
+{
+    if s.f == 0 {
+        return pass;
+    }
+    let last = s.n * s.k;
+    let mut sofar = pass;
+    let mut i: usize = 0;
+    while i < last {
+        if sofar.left == 0 {
+            return sofar;
+        }
+        sofar = q_row(s, counts, pops, i, mem, put, sofar);
+        i += 1;
+    }
+    sofar
+}

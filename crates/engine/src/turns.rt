@@ -1,0 +1,218 @@
+// Whose turn it is. The rows of P facts have their turns one after the other; a row that gave something has its turn again, so that a chain of
+// rows costs no more than a walk over all rows for each fact. After the last row the Q facts are gone over, which ends the round. Rounds go on
+// until one puts nothing. In which order the work goes is free: it puts only what a rule gives, and the last round goes over every use.
+ghost use mathlib.Core.Path.{_≡_};
+ghost use mathlib.Core.List.{List};
+ghost use Prim.Native.Nat.{ℕ, _+_, _*_, _/_, _%_, _<_, _≤_};
+ghost use lib.Dec.{ltb};
+ghost use Rattle.store.specs.Marking.{room, Is};
+ghost use Rattle.store.specs.Plans.{Planned};
+ghost use Rattle.uses.specs.Ranges.{RowsIn};
+ghost use Rattle.engine.specs.InRange.{Given};
+ghost use Rattle.uses.specs.Passing.{Swept};
+ghost use Rattle.engine.specs.AllUses.{RestUses};
+ghost use Rattle.engine.specs.Turns.{rowsOf, NextRow, RowsDone, Turning, Stepped, Goes};
+use crate::q_facts::q_rows;
+use store::marks::some;
+use store::plan::Plan;
+use store::plan::p_from;
+use store::rows::RowCounts;
+use uses::guarantees::guarantees;
+use uses::lines::Pass;
+use uses::row_rules::Kind;
+use uses::row_rules::rows_of;
+
+// The row of P facts whose turn it is, and what the work carries; `before` is how many marks could still be put when the round began. A row past
+// the last ends the work.
+pub struct Turn {
+    pub row: usize,
+    pub before: usize,
+    pub pass: Pass,
+}
+
+// The first turn.
+pub fn first_turn(pass: Pass) -> Turn
+    ensures { λ r. ⌜ r ≡ record { row = 0; before = pass .left; pass = pass } ⌝ }
+{
+    let left = pass.left;
+    Turn {
+        row: 0,
+        before: left,
+        pass: pass,
+    }
+}
+
+// Whether there is a turn.
+pub fn goes_on(s: Plan, turn: Turn) -> bool
+    requires { ⌜ Planned s ⌝ }
+    ensures { λ r. ⌜ r ≡ ltb (turn .row) (rowsOf s) ⌝ }
+{
+    turn.row < s.n * s.k
+}
+
+// The thread of the turn's row.
+pub fn thread_of(s: Plan, turn: Turn) -> usize
+    requires { ⌜ Planned s × (turn .row < rowsOf s) ⌝ }
+    ensures { λ r. ⌜ (r ≡ turn .row / s .k) × (r < s .n) ⌝ }
+{
+    turn.row / s.k
+}
+
+// The pair from which the facts of the turn's row lead.
+pub fn pair_from(s: Plan, turn: Turn) -> usize
+    requires { ⌜ Planned s × (turn .row < rowsOf s) ⌝ }
+    ensures { λ r. ⌜ (r ≡ turn .row % s .k) × (r < s .k) ⌝ }
+{
+    turn.row % s.k
+}
+
+// What the work carries.
+pub fn pass_of(turn: Turn) -> Pass
+    ensures { λ r. ⌜ r ≡ turn .pass ⌝ }
+{
+    turn.pass
+}
+
+// The next row of P facts from i on that has a mark, or how many rows there are.
+fn next_row(s: Plan, mem: &[u8], i: usize) -> usize
+    requires { ⌜ Planned s × (i ≤ rowsOf s) × (s .w ≤ room (now mem)) ⌝ }
+    ensures { λ r. ⌜ NextRow s (now (mem .entry)) i r ⌝ }
+{
+    let k = s.k;
+    let p = s.p;
+    let last = s.n * s.k;
+    let mut row = i;
+    while row < last {
+        if some(mem, p + row * k, k) {
+            return row;
+        }
+        row += 1;
+    }
+    last
+}
+
+// Rules 5 and 2 on the P facts of t from pair a.
+fn p_rest(
+    s: Plan,
+    counts: RowCounts,
+    pushes: &[u8],
+    t: usize,
+    a: usize,
+    mem: &mut [u8],
+    put: bool,
+    pass: Pass,
+) -> Pass
+    requires { ⌜ Planned s × RowsIn s (s .l) (s .f) (now pushes) (counts .pushes) × (t < s .n) × (a < s .k) × (s .w ≤ room (now mem)) ⌝ }
+    ensures { λ r. ⌜ Swept (RestUses s counts (now (pushes .entry)) t a) put pass r (now (mem .entry)) (now (mem .exit)) ⌝ }
+{
+    let pushed = rows_of(Kind::Push, s, t, a, pushes, counts.pushes, mem, put, pass);
+    guarantees(s, t, p_from(s, t, a), mem, put, pushed)
+}
+
+// Whether a round put more marks than there are rows of P facts: how many could be put before it, and how many can be put after it.
+fn put_many(before: usize, left: usize, rows: usize) -> bool
+    ensures { λ r. ⌜ Is (left + rows < before) r ⌝ }
+{
+    if before <= left {
+        return false;
+    }
+    rows < before - left
+}
+
+// The end of a round over the rows of P facts. If it put many marks, another begins at once, since there may be more Q facts by far. Else the
+// Q facts are gone over; if the round put nothing, or none is left to put, this ends the work.
+fn end_of_round(
+    s: Plan,
+    counts: RowCounts,
+    pops: &[u8],
+    mem: &mut [u8],
+    put: bool,
+    turn: Turn,
+    pass: Pass,
+) -> Turn
+    requires { ⌜ Planned s × RowsIn s (s .f) (s .l) (now pops) (counts .pops) × (s .w ≤ room (now mem)) ⌝ }
+    ensures { λ r. ⌜ ((st pu : List ℕ) (b : Pass) (m₀ : List ℕ)
+        → RowsDone s counts st pu (now (pops .entry)) put b turn pass m₀ (now (mem .entry))
+        → Goes s counts st pu (now (pops .entry)) put b turn r m₀ (now (mem .exit))) ⌝ }
+{
+    let last = s.n * s.k;
+    let before = turn.before;
+    let rest = pass.left;
+    if put_many(before, rest, last) {
+        return Turn {
+            row: 0,
+            before: rest,
+            pass: pass,
+        };
+    }
+    let end = q_rows(s, counts, pops, mem, put, pass);
+    let left = end.left;
+    if left == before {
+        return Turn {
+            row: last,
+            before: left,
+            pass: end,
+        };
+    }
+    if left == 0 {
+        return Turn {
+            row: last,
+            before: left,
+            pass: end,
+        };
+    }
+    Turn {
+        row: 0,
+        before: left,
+        pass: end,
+    }
+}
+
+// The turn after this one, of which rule 4 is done.
+pub fn next_turn(
+    s: Plan,
+    counts: RowCounts,
+    pushes: &[u8],
+    pops: &[u8],
+    mem: &mut [u8],
+    put: bool,
+    turn: Turn,
+    stepped: Pass,
+) -> Turn
+    requires { ⌜ Planned s × RowsIn s (s .l) (s .f) (now pushes) (counts .pushes) × RowsIn s (s .f) (s .l) (now pops) (counts .pops)
+        × (turn .row < rowsOf s) × (s .w ≤ room (now mem)) ⌝ }
+    ensures { λ r. ⌜ ((st : List ℕ) (b : Pass) (m₀ m : List ℕ) → Given s counts st (now (pushes .entry)) (now (pops .entry))
+        → Turning s counts st (now (pushes .entry)) (now (pops .entry)) put b turn m₀ m
+        → Stepped s counts st put turn stepped m (now (mem .entry))
+        → Goes s counts st (now (pushes .entry)) (now (pops .entry)) put b turn r m₀ (now (mem .exit))) ⌝ }
+{
+    let last = s.n * s.k;
+    let row = turn.row;
+    let before = turn.before;
+    let had = turn.pass;
+    let pass = p_rest(s, counts, pushes, row / s.k, row % s.k, mem, put, stepped);
+    let left = pass.left;
+    if left == 0 {
+        return Turn {
+            row: last,
+            before: left,
+            pass: pass,
+        };
+    }
+    if left != had.left {
+        return Turn {
+            row: row,
+            before: before,
+            pass: pass,
+        };
+    }
+    let next = next_row(s, mem, row + 1);
+    if next < last {
+        return Turn {
+            row: next,
+            before: before,
+            pass: pass,
+        };
+    }
+    end_of_round(s, counts, pops, mem, put, turn, pass)
+}

@@ -1,0 +1,63 @@
+-- Each use on a row of facts has a premise in it. So a row of facts with no mark gives nothing.
+-- Assumes nothing.
+use mathlib.Core.Path.{_≡_, refl, subst, _∙_}
+use mathlib.Core.Logic.{inl, inr}
+use mathlib.Core.List.{List}
+use Prim.Native.Nat.{ℕ, _+_, _*_, _/_, _%_, _<_, _≤_}
+use native.Mathlib.Nat.{mod-lt}
+use native.Mathlib.Omega.{arith}
+use Rattle.store.specs.declared.plan.Plan.{Plan}
+use Rattle.store.specs.declared.rows.Row.{Row}
+use Rattle.store.specs.Marking.{Has, SomeIn}
+use Rattle.store.specs.Plans.{Planned, pFrom, qFrom}
+use Rattle.store.specs.Reading.{rowOf}
+use Rattle.store.proofs.Places.{pair-lt, q-row, cut}
+use Rattle.uses.specs.declared.row_rules.Kind.the-variants.{Push, Pop}
+use Rattle.uses.specs.Ranges.{EachIn}
+use Rattle.uses.specs.Uses.{Single, Either, Upto}
+use Rattle.uses.specs.RuleUses.{StepUses, RowUses, CallUse, MovedUse}
+
+-- two uses of one mark
+from-one : {x y y′ q z w : ℕ} → Either (Single x y) (Single x y′) q z w → z ≡ x
+from-one (inl u) = u .1
+from-one (inr u) = u .1
+
+module _ (m : List ℕ) where
+  -- a mark j places after x is one among n
+  some-at : (x : ℕ) {z n : ℕ} (j : ℕ) → j < n → z ≡ x + j → Has m z → SomeIn m x n
+  some-at x j l e h = record { j = j; lt = l; here = subst (Has m) e h }
+
+  -- a mark among the places of a part is one among those of the whole
+  pub some-part : (x y : ℕ) {n k : ℕ} (d : ℕ) → y ≡ x + d → d + k ≤ n → SomeIn m y k → SomeIn m x n
+  some-part x y d e l s = some-at x (d + s .j) (omega (arith, s .lt)) (omega arith) (s .here)
+
+  module _ {s : Plan} (h : Planned s) where
+    -- rule 4
+    pub steps-in : {row : ℕ → Row} {n : ℕ} → EachIn s (s .g) (s .l) row n → (t a : ℕ) {q z y : ℕ} → StepUses s t a row n q z y → Has m z
+        → SomeIn m (pFrom s t a) (s .k)
+    steps-in fit t a u hz = let r = fit (u .k) (u .lt) in some-at _ _ (pair-lt h (r .g) (r .l)) (from-one (u .given .1)) hz
+
+    -- rule 5
+    pub pushes-in : (rows : List ℕ) {n : ℕ} → EachIn s (s .l) (s .f) (rowOf rows) n → (t a : ℕ) {q z y : ℕ} → RowUses Push s t a rows n q z y
+        → Has m z → SomeIn m (pFrom s t a) (s .k)
+    pushes-in rows fit t a u hz = let r = fit (u .k) (u .lt) in some-at _ _ (pair-lt h (r .g) (r .l)) (from-one (u .given .1)) hz
+
+    -- rule 7
+    pub pops-in : (rows : List ℕ) {n : ℕ} → EachIn s (s .f) (s .l) (rowOf rows) n → (t a : ℕ) {q z y : ℕ} → RowUses Pop s t a rows n q z y
+        → Has m z → SomeIn m (qFrom s t a) (s .f * s .k)
+    pops-in rows fit t a u hz =
+        let r = fit (u .k) (u .lt) in
+        let d = rowOf rows (u .k) .u * s .k in
+        some-part _ _ d refl (q-row h (r .u)) (some-at _ _ (pair-lt h (r .g) (r .l)) (u .given .1 .1) hz)
+
+    -- rule 6
+    pub calls-in : (t x : ℕ) {q z y : ℕ} → Upto (CallUse s t x) (s .k) q z y → Has m q → SomeIn m x (s .k)
+    calls-in t x u hq = some-at _ (u .k) (u .lt) (u .given .0) hq
+
+    -- rules 2 and 3
+    pub moved-in : (t x : ℕ) {q z y : ℕ} → Upto (MovedUse s t x) (s .p) q z y → Has m z → SomeIn m x (s .k)
+    moved-in t x u hz =
+        let i = u .k in
+        let v = u .given .1 .1 in
+        some-at x (i / s .g % s .g * s .l + v .k) (omega (arith, cut h (i / s .g % s .g) (mod-lt _ (h .g-pos)), v .lt))
+        (v .given .1 ∙ omega arith) hz

@@ -1,0 +1,9 @@
+-- What the contracts cite:
+--   Uses      sets of uses of rules at positions
+--   Passing   what a pass over such a set does
+--   Ranges    rows in range
+--   RuleUses  the uses of each rule
+pub mod Uses
+pub mod Passing
+pub mod Ranges
+pub mod RuleUses
