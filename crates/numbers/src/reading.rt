@@ -1,4 +1,4 @@
-// Reading numbers. A reader moves on only past whole numbers; the first fault wins.
+// Reading numbers: the number at a place of the bytes, with the place past it; the first fault wins.
 ghost use mathlib.Core.Path.{_≡_};
 ghost use Prim.Native.Nat.{_≤_};
 ghost use Rattle.numbers.specs.Reading.{groupsAt, numberAt, readOf};

@@ -4,7 +4,7 @@
 -- ---- machine values, types and assertions
 pub use mir.Syntax.{named, erased, w64, tyInt}
 pub use mir.Val.{Val, vint, vptr}
-pub use base.Logic.{SProp, ent, emp, id⊢}
+pub use base.Logic.{emp, id⊢}
 pub use base.Fml.{Lft, Share, GName, ftrue, fat, flft}
 pub use contract.Lifetimes.{AllOutlive}
 pub use contract.Monad.{factI}

@@ -261,13 +261,10 @@ module _ {M : Type 1} {𝓤 : URA M} (g : Here 𝓤) (κ : Lft) (q : Share) (s :
 -- ---- the parameters of the functions over a reader
 
 -- `r: Reader<'a>`
-abbrev row : NamedLft → RattleType
-row a = T.the-row a
-
-abbrev pub by-reader : Parameters {n = 1} (plain (λ κs. row (namedLft 1 0 tt κs)) ∷ []) (yes, tt)
+abbrev pub by-reader : Parameters {n = 1} (plain (λ κs. T.the-row (namedLft 1 0 tt κs)) ∷ []) (yes, tt)
 by-reader = record {
-  stay = (stay-none (λ κs. row (namedLft 1 0 tt κs)) yes, tt);
-  go = λ 𝓤 H A W. (goes-none 𝓤 H A W 1 (λ κs. row (namedLft 1 0 tt κs)) yes (λ κs x f. refl), tt);
+  stay = (stay-none (λ κs. T.the-row (namedLft 1 0 tt κs)) yes, tt);
+  go = λ 𝓤 H A W. (goes-none 𝓤 H A W 1 (λ κs. T.the-row (namedLft 1 0 tt κs)) yes (λ κs x f. refl), tt);
   spell = λ κs. (LL.vals (T.the-type (namedLft 1 0 tt κs)) (T′.the-laws (namedLft 1 0 tt κs)), tt);
   tell = λ κs. (LL.tells (T.the-type (namedLft 1 0 tt κs)) (T′.the-laws (namedLft 1 0 tt κs)), tt);
 }
@@ -284,7 +281,7 @@ by-bytes = record {
 
 -- `r: &'s mut Reader<'a>`
 abbrev behind : Slot 2
-behind = plain (λ κs. row (namedLft 2 1 tt κs))
+behind = plain (λ κs. T.the-row (namedLft 2 1 tt κs))
 
 abbrev pub by-lent-reader : Parameters {n = 2} (mutRefTo (0 ∷ []) tt behind ∷ []) (yes, tt)
 by-lent-reader = record {

@@ -69,10 +69,10 @@ pub left-unique : (r : Reader) (n n′ : ℕ) → n ≡ leftFrom (now (r .src)) 
 left-unique r n n′ = same
 
 -- the answer of `next`, and the reader at exit
-abbrev pub Read-on : Reader → Read → Reader → Type 0
-Read-on r n r′ = (n ≡ readOf (numberAt (now (r .src)) (r .at))) × (r′ ≡ movedOn r)
+abbrev pub ReadOn : Reader → Read → Reader → Type 0
+ReadOn r n r′ = (n ≡ readOf (numberAt (now (r .src)) (r .at))) × (r′ ≡ movedOn r)
 
-pub next-unique : (r : Reader) (n n′ : Read) (end end′ : Reader) → Read-on r n end → Read-on r n′ end′ → (n ≡ n′) × (end ≡ end′)
+pub next-unique : (r : Reader) (n n′ : Read) (end end′ : Reader) → ReadOn r n end → ReadOn r n′ end′ → (n ≡ n′) × (end ≡ end′)
 next-unique r n n′ end end′ p q = (same (p .0) (q .0), same (p .1) (q .1))
 
 -- ---- and these are the contracts: the clause that the prover reads from the source is that fact
@@ -91,5 +91,5 @@ module _ {M : Type 1} (𝓤 : URA M) (H : Heap 𝓤) (A : Atoms 𝓤) (mem : Mem
   left-says κs a n s = refl
 
   pub next-says : (κs : Lfts 2) (a : Args next.signature κs) (n : Read) (s : AtExit next.ended κs)
-      → next.clauses 𝓤 H A mem run κs a .ensures tt n s ≡ fact 𝓤 (Read-on (now (a .0)) n (now (s .0)))
+      → next.clauses 𝓤 H A mem run κs a .ensures tt n s ≡ fact 𝓤 (ReadOn (now (a .0)) n (now (s .0)))
   next-says κs a n s = refl

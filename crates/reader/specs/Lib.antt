@@ -1,3 +1,7 @@
+-- What a reader does (document 01, "Numbers"), and how a part of a file and the file end ("What comes back", 6).
+--   Places     the place past a number, and how many bytes are left
+--   Readers    a reader that moves on past whole numbers
+--   Ends       where a part of a file ends, and the end of the file
 pub mod Places
-pub mod Ends
 pub mod Readers
+pub mod Ends
