@@ -1,6 +1,6 @@
 // Runs the check on document 01's reference tables: in memory of 0xAA, with budgets at the count and one below it, and with memory one byte short.
-// Then counts the bytes that a check is to leave alone and did not, and the facts of each kind in the training table, and runs it on tables at the
-// limits of the sizes and just past them.
+// Then on a table where a row leaves the failed store, and on one that returns from a call. Then counts the bytes that a check is to leave alone
+// and did not, and the facts of each kind in the training table, and runs it on tables at the limits of the sizes and just past them.
 use libc::STDOUT_FILENO;
 use report::answers::first_line;
 use report::answers::verdict_line;
@@ -81,23 +81,31 @@ fn training() {
     run(&table, 9599, 57);
 }
 
-// Two threads of the training table with a true/false mutex: W is 2 * (16 + 28 * 28) = 1,600. The header and the count of the step rows, four of these
-// to a line, and no row of another kind.
-const MUTEX: [u8; 173] = *b"\x01\x02\x04\x07\x00\x07\x01\x00\x00\x20\
-    \x00\x00\x00\x02\x01\x00\x00\x01\x00\x02\x00\x00\x02\x01\x03\x00\x00\x03\x00\x06\
-    \x00\x00\x04\x00\x05\x00\x01\x00\x03\x01\x00\x01\x01\x00\x02\x00\x01\x03\x01\x04\
-    \x00\x01\x04\x01\x05\x00\x02\x01\x02\x02\x00\x02\x02\x03\x03\x00\x02\x03\x02\x06\
-    \x00\x02\x04\x00\x05\x00\x03\x01\x02\x02\x00\x03\x03\x03\x04\x00\x03\x04\x01\x05\
-    \x01\x00\x00\x02\x01\x01\x00\x01\x00\x02\x01\x00\x02\x01\x03\x01\x00\x03\x00\x06\
-    \x01\x00\x04\x00\x05\x01\x01\x00\x03\x01\x01\x01\x01\x00\x02\x01\x01\x03\x01\x04\
-    \x01\x01\x04\x01\x05\x01\x02\x01\x02\x02\x01\x02\x02\x03\x03\x01\x02\x03\x02\x06\
-    \x01\x02\x04\x00\x05\x01\x03\x01\x02\x02\x01\x03\x03\x03\x04\x01\x03\x04\x01\x05\
-    \x00\x00\x00";
-
+// The training table's program with two threads and a true/false mutex: W is 2 * (16 + 28 * 28) = 1,600.
 fn mutex() {
-    run(&MUTEX, MOST, 80);
-    run(&MUTEX, MOST, 79);
-    run(&MUTEX, 1599, 80);
+    let table = training::mutex_file();
+    run(&table, MOST, 80);
+    run(&table, MOST, 79);
+    run(&table, 1599, 80);
+}
+
+// ---- rows that a check must not pass over
+
+// A row leaves the failed store, where the thread starts. It is followed like any other, so there are three facts: the start, where the row leads,
+// and its guarantee.
+fn leaving_the_failed_store() {
+    let table: [u8; 17] = [1, 1, 1, 2, 0, 1, 0, 0, 1, 0, 0, 0, 0, 1, 0, 0, 0];
+    run(&table, MOST, 65536);
+}
+
+// A call returns to a local store that is reached in no other way, and that is an error: four facts, of which rule 7 gives the last.
+fn returning() {
+    let table: [u8; 24] = *b"\x01\x01\x01\x03\x01\x00\x00\x00\
+        \x00\
+        \x01\x00\x00\x00\x01\x00\
+        \x01\x00\x00\x01\x00\x02\
+        \x01\x00\x03";
+    run(&table, MOST, 65536);
 }
 
 // ---- the bytes that a check leaves alone
@@ -133,8 +141,9 @@ fn left_alone() {
     watch(&RECURSION, 35, 5, 0);
     let table = RECURSION;
     watch(&table[..28], MOST, 5, 0);
-    watch(&MUTEX, MOST, 80, 1600);
-    watch(&MUTEX, MOST, 79, 1600);
+    let mutex = training::mutex_file();
+    watch(&mutex, MOST, 80, 1600);
+    watch(&mutex, MOST, 79, 1600);
 }
 
 // ---- the kinds of facts
@@ -216,6 +225,8 @@ fn main() {
     smallest();
     training();
     mutex();
+    leaving_the_failed_store();
+    returning();
     left_alone();
     kinds();
     limits();

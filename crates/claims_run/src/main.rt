@@ -261,19 +261,8 @@ fn all_positions() {
 // W is 2, and there is one fact.
 const SMALLEST: [u8; 12] = [1, 1, 1, 1, 0, 0, 0, 0, 0, 0, 0, 0];
 
-// Two threads of the training table with a true/false mutex: W is 1,600. Four step rows to a line.
-const MUTEX: [u8; 173] = *b"\x01\x02\x04\x07\x00\x07\x01\x00\x00\x20\
-    \x00\x00\x00\x02\x01\x00\x00\x01\x00\x02\x00\x00\x02\x01\x03\x00\x00\x03\x00\x06\
-    \x00\x00\x04\x00\x05\x00\x01\x00\x03\x01\x00\x01\x01\x00\x02\x00\x01\x03\x01\x04\
-    \x00\x01\x04\x01\x05\x00\x02\x01\x02\x02\x00\x02\x02\x03\x03\x00\x02\x03\x02\x06\
-    \x00\x02\x04\x00\x05\x00\x03\x01\x02\x02\x00\x03\x03\x03\x04\x00\x03\x04\x01\x05\
-    \x01\x00\x00\x02\x01\x01\x00\x01\x00\x02\x01\x00\x02\x01\x03\x01\x00\x03\x00\x06\
-    \x01\x00\x04\x00\x05\x01\x01\x00\x03\x01\x01\x01\x01\x00\x02\x01\x01\x03\x01\x04\
-    \x01\x01\x04\x01\x05\x01\x02\x01\x02\x02\x01\x02\x02\x03\x03\x01\x02\x03\x02\x06\
-    \x01\x02\x04\x00\x05\x01\x03\x01\x02\x02\x01\x03\x03\x03\x04\x01\x03\x04\x01\x05\
-    \x00\x00\x00";
-
-// The claim of no fact lacks thread 0's start fact. For the training table (W is 9,600) the others' follow: the claims of the start facts of thread
+// The claim of no fact lacks thread 0's start fact. For the training table (W is 9,600; that of the mutex
+// table is 1,600) the others' follow: the claims of the start facts of thread
 // 0, of threads 0 and 1, and of all three, which is not closed.
 fn starts() {
     text(b"starts\n");
@@ -281,7 +270,8 @@ fn starts() {
     let training = training::file();
     check(&RECURSION, 36, &none, MOST);
     check(&SMALLEST, 2, &none, MOST);
-    check(&MUTEX, 1600, &none, MOST);
+    let mutex = training::mutex_file();
+    check(&mutex, 1600, &none, MOST);
     check(&training, 9600, &none, MOST);
     check(&training, 9600, b"\x01\x01\xCF\x04", MOST);
     check(&training, 9600, b"\x01\x02\xCF\x04\xC0\x18", MOST);
@@ -319,8 +309,9 @@ fn written() {
     let training = training::file();
     write(&training, 9600, 9600, 57, 62);
     write(&training, 9600, 9600, 57, 61);
-    write(&MUTEX, 1600, 1600, 80, 84);
-    write(&MUTEX, 1600, 1600, 80, 83);
+    let mutex = training::mutex_file();
+    write(&mutex, 1600, 1600, 80, 84);
+    write(&mutex, 1600, 1600, 80, 83);
 }
 
 fn main() {
