@@ -10,7 +10,7 @@ use native.Mathlib.Omega.{arith}
 use Rattle.files.specs.Table.{Table, Sound, W}
 use Rattle.model.specs.Rules.{Fact, Starts, Closed, Derives}
 use Rattle.model.specs.Positions.{Fits, pos}
-use Rattle.model.specs.Memory.{Relations, Marked, total, FactCount}
+use Rattle.model.specs.Memory.{Relations, Marked, total, FactCount, Exceeds}
 use Rattle.model.proofs.Least.{derives-closed}
 use Rattle.model.proofs.Monotone.{yields-mono}
 use Rattle.model.proofs.Positions.{pos-lt, pos-inj}
@@ -24,7 +24,6 @@ use Rattle.store.proofs.MarkLaws.{put-room, has?, has-before, BitsTo, bits-put,
 use Rattle.uses.specs.Uses.{Uses, Lacks}
 use Rattle.engine.specs.AllUses.{AllUses}
 use Rattle.uses.specs.Passing.{Grew, none, more}
-use Rattle.engine.specs.Answers.{Exceeds}
 use Rattle.uses.proofs.PassLaws.{grew-has}
 use Rattle.uses.proofs.Bridge.{used-lacks}
 use Rattle.engine.proofs.UsesAreYields.{yields-used, lacks-yields}

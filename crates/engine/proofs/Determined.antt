@@ -13,7 +13,7 @@ use denote.Ref.{now}
 use denote.Triple.Clauses.{AtExit}
 use borrow.Fn.Kinds.{Dens, endedOf}
 use Rattle.files.specs.Table.{Table, Sound, W}
-use Rattle.model.specs.Memory.{FactCount}
+use Rattle.model.specs.Memory.{FactCount, Exceeds}
 use Rattle.model.proofs.Memory.{over-budget}
 use Rattle.model.proofs.Unique.{holds-same, fact-count-same, first-same}
 use Rattle.store.specs.declared.plan.Plan.{Plan}
@@ -21,7 +21,7 @@ use Rattle.store.specs.Marking.{room}
 use Rattle.store.proofs.PlanIsModel.{w-is}
 use Rattle.engine.specs.declared.run.Answer.{Answer}
 use Rattle.engine.specs.declared.run.Answer.the-variants.{Done, Over}
-use Rattle.engine.specs.Answers.{Exceeds, Ran, Confirmed, lacking, whole}
+use Rattle.engine.specs.Answers.{Ran, Confirmed, lacking, whole}
 use Rattle.engine.proofs.run.run.Reads as run
 use Rattle.engine.proofs.run.run.Kinds as run-kinds
 use Rattle.engine.proofs.run.missing.Reads as missing

@@ -8,7 +8,7 @@ use Prim.Native.Nat.{ℕ, suc, _+_, _<_, _≤_}
 use native.Mathlib.Omega.{arith}
 use Rattle.files.specs.Table.{Table, W}
 use Rattle.model.specs.Rules.{Starts}
-use Rattle.model.specs.Memory.{Relations, Marked, FactCount}
+use Rattle.model.specs.Memory.{Relations, Marked, FactCount, Exceeds}
 use Rattle.store.specs.declared.plan.Plan.{Plan}
 use Rattle.store.specs.declared.rows.RowCounts.{RowCounts}
 use Rattle.store.specs.Marking.{room, Clear}
@@ -20,7 +20,7 @@ use Rattle.uses.specs.Passing.{Looked}
 use Rattle.engine.specs.Working.{Settled, Worked, looked, settled}
 use Rattle.engine.specs.Given.{RowsOf, StartOf}
 use Rattle.engine.specs.Starting.{begun}
-use Rattle.engine.specs.Answers.{Exceeds, Confirmed}
+use Rattle.engine.specs.Answers.{Confirmed}
 use Rattle.engine.proofs.UsesAreYields.{looked-confirmed}
 use Rattle.engine.proofs.Derivable.{Derivable, exceeds, derivable-grew, starts-grew, held, counted}
 use Rattle.engine.proofs.StartLaws.{begun-clear}

@@ -1,21 +1,13 @@
 -- What is answered (01, "Working memory and claims", "Budget"; "What comes back", numbers 0, 8 and 10).
 use mathlib.Core.Path.{_≡_}
 use mathlib.Core.List.{List}
-use Prim.Native.Nat.{ℕ, _<_, _≤_}
+use Prim.Native.Nat.{ℕ, _≤_}
 use Rattle.files.specs.Table.{Table, W}
-use Rattle.model.specs.Rules.{Fact, Derives}
-use Rattle.model.specs.Memory.{Bits, Relations, Marked, total, FactCount}
+use Rattle.model.specs.Memory.{Relations, Marked, FactCount, Exceeds}
 use Rattle.model.specs.Claims.{First, Missing}
 use Rattle.store.specs.Marking.{Clear}
 use Rattle.engine.specs.declared.run.Answer.{Answer}
 use Rattle.engine.specs.declared.run.Answer.the-variants.{Done, Over}
-
--- there are more facts than the budget: some memory marks more than that, and nothing but derivable facts
-pub record Exceeds (T : Table) (budget : ℕ) : Type 0 where
-  pub mem : List ℕ
-  pub bits : Bits T mem
-  pub derivable : (f : Fact) → Marked T mem f → Derives T f
-  pub over : budget < total mem (W T)
 
 -- Done: the memory holds the least relations, of c facts, within the budget. Over: there are more, and the memory is clear.
 abbrev pub Ran : Table → ℕ → Answer → List ℕ → Type 0

@@ -52,3 +52,10 @@ CountOf T S c = Counts (λ p. S (factAt T p)) (W T) c
 -- the reported count ("Budget"): the least relations hold c facts, G, P and Q together
 abbrev pub FactCount : Table → ℕ → Type 0
 FactCount T c = CountOf T (Derives T) c
+
+-- 8, "more facts than the budget": some memory marks more than that, and nothing but derivable facts
+pub record Exceeds (T : Table) (budget : ℕ) : Type 0 where
+  pub mem : List ℕ
+  pub bits : Bits T mem
+  pub derivable : (f : Fact) → Marked T mem f → Derives T f
+  pub over : budget < total mem (W T)

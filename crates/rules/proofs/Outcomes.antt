@@ -10,7 +10,7 @@ use lib.ListN.{length, take, drop, replicate}
 use lib.Seq.{length-take-le, getD-take}
 use Rattle.files.specs.Table.{Table, Sound, W}
 use Rattle.model.specs.Rules.{Fact}
-use Rattle.model.specs.Memory.{Holds, Relations, FactCount}
+use Rattle.model.specs.Memory.{Holds, Relations, FactCount, Exceeds}
 use Rattle.store.specs.Marking.{Clear}
 use Rattle.store.specs.declared.plan.Plan.{Plan}
 use Rattle.store.specs.Plans.{planOf}
@@ -18,7 +18,7 @@ use Rattle.store.proofs.MarkLaws.{clear-zeros}
 use Rattle.store.proofs.PlanIsModel.{w-is}
 use Rattle.engine.specs.declared.run.Answer.{Answer}
 use Rattle.engine.specs.declared.run.Answer.the-variants as Ends
-use Rattle.engine.specs.Answers.{Exceeds, Ran}
+use Rattle.engine.specs.Answers.{Ran}
 use Rattle.verdict.specs.declared.search.Verdict.{Verdict}
 use Rattle.verdict.specs.Judged.{Judged}
 use Rattle.verdict.proofs.Answers.{judged-least}

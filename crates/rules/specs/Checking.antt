@@ -8,9 +8,8 @@ use Rattle.numbers.specs.Reading.{got, bad}
 use Rattle.files.specs.Table.{Table, W}
 use Rattle.files.specs.File.{tableAt}
 use Rattle.model.specs.Rules.{Derives}
-use Rattle.model.specs.Memory.{Relations, FactCount}
+use Rattle.model.specs.Memory.{Relations, FactCount, Exceeds}
 use Rattle.store.specs.Marking.{Cleared}
-use Rattle.engine.specs.Answers.{Exceeds}
 use Rattle.verdict.specs.declared.search.Verdict.{Verdict}
 use Rattle.verdict.specs.Judged.{Answers}
 use Rattle.rules.specs.declared.answer.Answer.{Answer}
