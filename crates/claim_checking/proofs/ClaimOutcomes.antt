@@ -32,7 +32,7 @@ use Rattle.claim_checking.specs.declared.answer.ClaimAnswer.{ClaimAnswer
 use Rattle.claim_checking.specs.declared.answer.ClaimAnswer.the-variants.{Accepted, Short, ClaimRefused, LacksStart, NotClosed, AllowsError}
 use Rattle.claim_checking.specs.ClaimLent.{Lent, MarkedIn}
 use Rattle.claim_checking.specs.ClaimChecking.{
-  Rejects,
+  Refuses,
   OfPositions,
   done,
   lacking,
@@ -70,21 +70,21 @@ module _ {T : Table} {ps : List ℕ} {h : Header} {k : Counts} {st pu po er c : 
         rw (l .counted, kept) (done (record { found = found e; facts = facts; rest = rw (← l .room) (by .rest) }))
 
     module _ {m′ : List ℕ} (cleared : Cleared w after m′) where
-      rejects : {x : Finding} → r ≡ x → Rejects T ps m (findingOf x) m′
-      rejects e =
+      refuses : {x : Finding} → r ≡ x → Refuses T ps m (findingOf x) m′
+      refuses e =
           record {
             found = found e;
             cleared = rw (← l .room) (record { zeros = cleared .zeros; rest = cleared .rest ∙ ap (drop w) kept ∙ by .rest });
           }
 
       pub answer-lacking : {t : ℕ} → r ≡ find.LacksStart t → OfPositions T ps m (LacksStart t) m′
-      answer-lacking e = lacking (rejects e)
+      answer-lacking e = lacking (refuses e)
 
       pub answer-missing : {p : ℕ} → r ≡ find.NotClosed p → OfPositions T ps m (NotClosed p) m′
-      answer-missing e = missing (rejects e)
+      answer-missing e = missing (refuses e)
 
       pub answer-allowing : {row : ℕ} → r ≡ find.AllowsError row → OfPositions T ps m (AllowsError row) m′
-      answer-allowing e = allowing (rejects e)
+      answer-allowing e = allowing (refuses e)
 
 -- ---- by the length of the memory, and by what the claim's reader answers
 

@@ -34,7 +34,7 @@ pub record Accepts (T : Table) (ps m m′ : List ℕ) : Type 0 where
   pub rest : drop (W T) m′ ≡ drop (W T) m
 
 -- The claim is refused for what is found of the claimed facts: the first W bytes are cleared, and the others are as they were.
-pub record Rejects (T : Table) (ps m : List ℕ) (x : Finding) (m′ : List ℕ) : Type 0 where
+pub record Refuses (T : Table) (ps m : List ℕ) (x : Finding) (m′ : List ℕ) : Type 0 where
   pub found : Finds T (Claimed T ps) x
   pub cleared : Cleared (W T) m m′
 
@@ -43,11 +43,11 @@ pub data OfPositions (T : Table) (ps m : List ℕ) : ClaimAnswer → List ℕ �
   -- 0: the value is the claim's count
   done : {m′ : List ℕ} → Accepts T ps m m′ → OfPositions T ps m (Accepted (length ps)) m′
   -- 9: the claim lacks a start fact, that of thread t and of none before it
-  lacking : {t : ℕ} {m′ : List ℕ} → Rejects T ps m (lacks-start t) m′ → OfPositions T ps m (LacksStart t) m′
+  lacking : {t : ℕ} {m′ : List ℕ} → Refuses T ps m (lacks-start t) m′ → OfPositions T ps m (LacksStart t) m′
   -- 10: p is the smallest position that one use of a rule yields from claimed facts and isn't claimed
-  missing : {p : ℕ} {m′ : List ℕ} → Rejects T ps m (not-closed p) m′ → OfPositions T ps m (NotClosed p) m′
+  missing : {p : ℕ} {m′ : List ℕ} → Refuses T ps m (not-closed p) m′ → OfPositions T ps m (NotClosed p) m′
   -- 11: the claim allows an error, by the row and by none before it
-  allowing : {row : ℕ} {m′ : List ℕ} → Rejects T ps m (allows-error row) m′ → OfPositions T ps m (AllowsError row) m′
+  allowing : {row : ℕ} {m′ : List ℕ} → Refuses T ps m (allows-error row) m′ → OfPositions T ps m (AllowsError row) m′
 
 -- what comes back for a table that was read
 pub data OfTable (T : Table) (c m : List ℕ) : ClaimAnswer → List ℕ → Type 0 where

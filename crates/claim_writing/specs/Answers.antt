@@ -1,4 +1,4 @@
--- Document 01's number, origin and value of each answer of claim writing ("What comes back"). The origin is 0: what is refused is the table.
+-- Document 01's number, origin and value of each answer of claim writing ("What comes back"). No claim is read, so the origin is 0.
 use Rattle.rules.specs.declared.answer.Reply.{Reply}
 use Rattle.rules.specs.Answers.{plain, told}
 use Rattle.claim_writing.specs.declared.answer.WriteAnswer.{WriteAnswer}

@@ -15,7 +15,7 @@ plain number value = record { number = number; origin = 0; value = value }
 abbrev pub told : ℕ → Refusal → Reply
 told origin refusal = record { number = toldOf refusal .number; origin = origin; value = toldOf refusal .value }
 
--- what is refused is the table
+-- no claim is read, so the origin is 0
 abbrev pub replyOf : Answer → Reply
 replyOf (Done count verdict) = plain 0 count
 replyOf (Refused refusal) = told 0 refusal
