@@ -17,7 +17,7 @@ use Rattle.model.proofs.Unique.{finding-same}
 use Rattle.rules.proofs.Unique.{got-table}
 use Rattle.claim_files.specs.ClaimFile.{claimAt}
 use Rattle.claim_checking.specs.declared.answer.ClaimAnswer.{ClaimAnswer}
-use Rattle.claim_checking.specs.declared.answer.ClaimAnswer.the-variants.{Accepted, LacksStart, NotClosed, AllowsError}
+use Rattle.claim_checking.specs.Answers.{answerOf}
 use Rattle.claim_checking.specs.ClaimChecking.{
   HoldsClaim,
   OfPositions,
@@ -50,13 +50,6 @@ claim-was-read room e (claim-refused _ e′) = let q = sym e ∙ e′ in never (
 claim-was-read room e (claim-read _ e′ o) = rw (got-positions (sym e ∙ e′)) o
 
 -- ---- the finding
-
--- the answer that tells a finding on a claim of `count` facts
-abbrev pub answerOf : ℕ → Finding → ClaimAnswer
-answerOf count accepted = Accepted count
-answerOf count (lacks-start t) = LacksStart t
-answerOf count (not-closed p) = NotClosed p
-answerOf count (allows-error row) = AllowsError row
 
 -- the first W bytes after it
 abbrev pub Left : Table → List ℕ → Finding → List ℕ → Type 0

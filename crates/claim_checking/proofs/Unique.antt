@@ -24,6 +24,7 @@ use Rattle.rules.proofs.Unique.{Alike, unchanged, changed, alike-same, bad-refu
 use Rattle.claim_files.specs.ClaimFile.{claimAt}
 use Rattle.claim_checking.specs.declared.answer.ClaimAnswer.{ClaimAnswer}
 use Rattle.claim_checking.specs.declared.answer.ClaimAnswer.the-variants.{TableRefused, ClaimRefused}
+use Rattle.claim_checking.specs.Answers.{answerOf}
 use Rattle.claim_checking.specs.ClaimChecking.{
   OfPositions,
   OfTable,
@@ -34,7 +35,7 @@ use Rattle.claim_checking.specs.ClaimChecking.{
   table-refused,
   table-read,
 }
-use Rattle.claim_checking.proofs.ClaimCases.{table-was-read, claim-was-read, answerOf, Left, worked}
+use Rattle.claim_checking.proofs.ClaimCases.{table-was-read, claim-was-read, Left, worked}
 use Rattle.claim_checking.proofs.answer.reply_of.Reads as reply-of
 use Rattle.claim_checking.proofs.answer.reply_of.Kinds as reply-of-kinds
 use Rattle.claim_checking.proofs.check.check_claim.Reads as check-claim

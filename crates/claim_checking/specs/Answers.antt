@@ -1,5 +1,7 @@
 -- Document 01's number, origin and value of each answer of the claim check ("What comes back": "An answer has a number, an origin (1 for a
 -- claim's 1 to 6, else 0) and a value.").
+use Prim.Native.Nat.{ℕ}
+use Rattle.model.specs.Claims.{Finding, accepted, lacks-start, not-closed, allows-error}
 use Rattle.rules.specs.declared.answer.Reply.{Reply}
 use Rattle.rules.specs.Answers.{plain, told}
 use Rattle.claim_checking.specs.declared.answer.ClaimAnswer.{ClaimAnswer}
@@ -21,3 +23,10 @@ replyOf (ClaimRefused refusal) = told 1 refusal
 replyOf (LacksStart thread) = plain 9 thread
 replyOf (NotClosed position) = plain 10 position
 replyOf (AllowsError row) = plain 11 row
+
+-- the answer that tells a finding on a claim of `count` facts: 0, 9, 10 and 11
+abbrev pub answerOf : ℕ → Finding → ClaimAnswer
+answerOf count accepted = Accepted count
+answerOf count (lacks-start t) = LacksStart t
+answerOf count (not-closed p) = NotClosed p
+answerOf count (allows-error row) = AllowsError row

@@ -2,7 +2,6 @@
 -- the rules alone can be read off the memory that a finished check leaves.
 --     marks-are-positions    the marked positions are those of the facts
 --     positions-are-marks    the positions of the facts are the marked ones
---     check-done             what a finished check tells
 --     claim-of-marks         the claim of the marks that it leaves is the claim of the facts
 --     claim-table, claim-bytes    and there is no other
 -- Assumes nothing.
@@ -10,10 +9,7 @@ use mathlib.Core.Path.{_≡_, refl, sym, ap, _∙_}
 use mathlib.Core.List.{List, List·Memᴰ, Memᴰ·cast, Memᴰ·map, Memᴰ·of-map}
 use Prim.Native.Nat.{ℕ, _<_}
 use lib.Seq.{length-take-le, getD-take}
-use Rattle.numbers.specs.Reading.{got}
 use Rattle.files.specs.Table.{Table, Sound, W}
-use Rattle.files.specs.File.{tableAt}
-use Rattle.files.proofs.TableLaws.{table-sound}
 use Rattle.model.specs.Rules.{Derives}
 use Rattle.model.specs.Positions.{factAt}
 use Rattle.model.specs.Memory.{Relations}
@@ -22,8 +18,7 @@ use Rattle.model.proofs.InRange.{derives-fits}
 use Rattle.model.proofs.Memory.{says-cast, marked-in, in-marked}
 use Rattle.model.proofs.Claims.{claimed-fits}
 use Rattle.verdict.specs.declared.search.Verdict.{Verdict}
-use Rattle.rules.specs.declared.answer.Answer.the-variants.{Done}
-use Rattle.rules.specs.Checking.{Finished, done, Checked, read}
+use Rattle.rules.specs.Checking.{CheckDone}
 use Rattle.rules.proofs.Unique.{got-table}
 use Rattle.claim_files.specs.ClaimFile.{claimBytes}
 use Rattle.claim_files.specs.Marks.{positionsIn}
@@ -65,34 +60,24 @@ module _ {T : Table} (sound : Sound T) where
 
 -- ---- a finished check
 
-pub record CheckDone (s : List ℕ) (budget : ℕ) (m : List ℕ) (count : ℕ) (verdict : Verdict) (m′ : List ℕ) : Type 0 where
-  pub table : Table
-  pub next : ℕ
-  pub is : tableAt s ≡ got table next
-  pub sound : Sound table
-  pub finished : Finished table budget m count verdict m′
+module _ {s : List ℕ} {budget : ℕ} {m : List ℕ} {count : ℕ} {verdict : Verdict} {m′ : List ℕ}
+    (k : CheckDone s budget m count verdict m′) where
+  -- the claim of the marks that it leaves
+  unfoldable pub claim-of-marks : ClaimOf s (k .table) (claimBytes (positionsIn (W (k .table)) m′))
+  claim-of-marks =
+      record {
+        next = k .next;
+        is = k .is;
+        positions = positionsIn (W (k .table)) m′;
+        facts = marks-are-positions (k .sound) (k .finished .relations);
+        written = refl;
+      }
 
-module _ {s : List ℕ} {budget : ℕ} {m : List ℕ} {count : ℕ} {verdict : Verdict} {m′ : List ℕ} where
-  pub check-done : Checked s budget m (Done count verdict) m′ → CheckDone s budget m count verdict m′
-  check-done (read {T} {next} e (done h f)) = record { table = T; next = next; is = e; sound = table-sound s T next e; finished = f }
+  module _ {T : Table} {bytes : List ℕ} (c : ClaimOf s T bytes) where
+    pub claim-table : T ≡ k .table
+    claim-table = got-table (sym (c .is) ∙ k .is)
 
-  module _ (k : CheckDone s budget m count verdict m′) where
-    -- the claim of the marks that it leaves
-    unfoldable pub claim-of-marks : ClaimOf s (k .table) (claimBytes (positionsIn (W (k .table)) m′))
-    claim-of-marks =
-        record {
-          next = k .next;
-          is = k .is;
-          positions = positionsIn (W (k .table)) m′;
-          facts = marks-are-positions (k .sound) (k .finished .relations);
-          written = refl;
-        }
-
-    module _ {T : Table} {bytes : List ℕ} (c : ClaimOf s T bytes) where
-      pub claim-table : T ≡ k .table
-      claim-table = got-table (sym (c .is) ∙ k .is)
-
-      pub claim-bytes : bytes ≡ claimBytes (positionsIn (W (k .table)) m′)
-      claim-bytes =
-          let facts = rw claim-table at (c .facts) in
-          c .written ∙ ap claimBytes (sym (positions-are-marks (k .sound) facts (k .finished .relations)))
+    pub claim-bytes : bytes ≡ claimBytes (positionsIn (W (k .table)) m′)
+    claim-bytes =
+        let facts = rw claim-table at (c .facts) in
+        c .written ∙ ap claimBytes (sym (positions-are-marks (k .sound) facts (k .finished .relations)))

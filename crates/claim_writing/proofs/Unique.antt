@@ -22,10 +22,11 @@ use Rattle.rules.specs.declared.answer.Answer.{Answer}
 use Rattle.rules.specs.declared.answer.Answer.the-variants as check
 use Rattle.rules.specs.Checking.{Checked}
 use Rattle.rules.proofs.Unique.{checked-answer, checked-same}
+use Rattle.rules.proofs.Exactly.{check-done}
 use Rattle.claim_writing.specs.declared.answer.WriteAnswer.{WriteAnswer}
 use Rattle.claim_writing.specs.declared.answer.WriteAnswer.the-variants.{Written, Refused, Short, Over, NoSpace}
 use Rattle.claim_writing.specs.ClaimWriting.{ClaimOf, ClaimWritten, refused, short, over, no-space, written}
-use Rattle.claim_writing.proofs.PositionsOfFacts.{check-done, claim-table, claim-bytes}
+use Rattle.claim_writing.proofs.PositionsOfFacts.{claim-table, claim-bytes}
 use Rattle.claim_writing.proofs.write.write_claim.Reads as write-claim
 use Rattle.claim_writing.proofs.write.write_claim.Kinds as write-claim-kinds
 use Rattle.claim_writing.proofs.answer.write_reply_of.Reads as write-reply-of

@@ -15,13 +15,14 @@ use Rattle.store.specs.Marking.{Cleared}
 use Rattle.verdict.specs.declared.search.Verdict.{Verdict}
 use Rattle.rules.specs.declared.answer.Answer.the-variants.{Done}
 use Rattle.rules.specs.Checking.{Checked}
+use Rattle.rules.proofs.Exactly.{check-done}
 use Rattle.claim_files.specs.ClaimFile.{ClaimPut}
 use Rattle.claim_files.specs.Marks.{positionsIn}
 use Rattle.claim_writing.specs.declared.answer.WriteAnswer.{WriteAnswer}
 use Rattle.claim_writing.specs.declared.answer.WriteAnswer.the-variants.{Written, NoSpace}
 use Rattle.claim_writing.specs.ClaimWriting.{ClaimWritten, no-space, written}
 use Rattle.claim_writing.specs.WriteStages.{RoomOf, marksClaim, MarksWritten, no-room, put}
-use Rattle.claim_writing.proofs.PositionsOfFacts.{check-done, claim-of-marks}
+use Rattle.claim_writing.proofs.PositionsOfFacts.{claim-of-marks}
 
 -- ---- the room, by the header
 

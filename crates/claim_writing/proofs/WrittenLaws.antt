@@ -11,42 +11,32 @@ use Prim.Native.Nat.{ℕ, _+_, _≤_}
 use native.Mathlib.Omega.{arith}
 use lib.ListN.{length, take, drop}
 use lib.Seq.{sets, length-sets, sets-eq, take-at, length-take-le}
-use Rattle.numbers.specs.Reading.{got}
-use Rattle.files.specs.Table.{Table, Sound, W, mostFacts}
+use Rattle.files.specs.Table.{Table, W, mostFacts}
 use Rattle.files.proofs.RoomLaws.{W-max}
 use Rattle.files.proofs.TableLaws.{table-sound}
-use Rattle.model.specs.Rules.{Derives}
 use Rattle.model.specs.Claims.{Claimed, accepted, allows-error, Finds, whole, allowing}
 use Rattle.model.proofs.Least.{derives-closed-with-starts}
 use Rattle.model.proofs.Monotone.{finding-cast}
 use Rattle.model.proofs.Unique.{fact-count-same}
 use Rattle.verdict.specs.declared.search.Verdict.{Verdict}
 use Rattle.verdict.specs.declared.search.Verdict.the-variants.{Safe, Possible}
-use Rattle.verdict.specs.Judged.{Answers}
 use Rattle.verdict.proofs.Answers.{possible-row, safe-none}
-use Rattle.claim_files.specs.ClaimFile.{AscendingFrom, Ascending, claimAt, claimBytes}
+use Rattle.rules.specs.Checking.{CheckDone}
+use Rattle.rules.proofs.Exactly.{check-done}
+use Rattle.claim_files.specs.ClaimFile.{AscendingFrom, Ascending, claimBytes}
 use Rattle.claim_files.specs.Marks.{positionsIn}
 use Rattle.claim_files.proofs.RoundTrip.{claim-back, claim-bytes-inj}
 use Rattle.claim_files.proofs.ClaimIsModel.{written-counts}
 use Rattle.claim_writing.specs.declared.answer.WriteAnswer.the-variants.{Written}
 use Rattle.claim_writing.specs.ClaimWriting.{ClaimOf, ClaimWritten, written}
-use Rattle.claim_writing.proofs.PositionsOfFacts.{CheckDone, check-done, claim-of-marks, claim-bytes}
+use Rattle.claim_writing.specs.ReadBack.{WrittenClaim}
+use Rattle.claim_writing.proofs.PositionsOfFacts.{claim-of-marks, claim-bytes}
 
 -- ---- what was written is read
 
 -- bytes that were put at the start of a space are its first
 sets-first : (bytes d : List ℕ) → length bytes ≤ length d → take (length bytes) (sets d 0 bytes) ≡ bytes
 sets-first bytes d l = ap (take (length bytes)) (sets-eq bytes d 0 (omega arith)) ∙ take-at bytes (drop (0 + length bytes) d) (length bytes) refl
-
--- the file is the claim of the facts of the table that s holds, of so many facts and with this verdict; a claim reader takes all its bytes and
--- finds these facts
-pub record WrittenClaim (s : List ℕ) (count : ℕ) (verdict : Verdict) (bytes : ℕ) (file : List ℕ) : Type 0 where
-  pub table : Table
-  pub sound : Sound table
-  pub claim : ClaimOf s table file
-  pub counts : count ≡ length (claim .positions)
-  pub judged : Answers table (Derives table) verdict
-  pub reads : claimAt (W table) file ≡ got (claim .positions) bytes
 
 -- the claim of the marks that a finished check leaves
 done-claim : {s : List ℕ} {budget : ℕ} {m : List ℕ} {count : ℕ} {verdict : Verdict} {m′ : List ℕ} (k : CheckDone s budget m count verdict m′)

@@ -1,9 +1,5 @@
--- The cases that document 01 marks with P ("Reference tables and results"): one table of them, and one statement, that each is as the document
--- says. It is shown of the definitions alone, by one computed test.
---     Case     what the document says of a table's file, or of a claim's file for a table
---     Shown    that this is so, by the definitions
---     cases    the table
---     shown    the statement
+-- Every case that document 01 marks with P is as the document says: one statement over the table of specs/Cases.antt, shown of the definitions alone
+-- by one computed test.
 -- Assumes nothing.
 use mathlib.Core.Path.{_≡_, refl, ap}
 use mathlib.Core.Logic.{Dec·and}
@@ -13,95 +9,23 @@ use Prim.Native.Nat.{ℕ}
 use native.Mathlib.Decide.{ℕ-discrete, decLt, map-dec}
 use native.Mathlib.Omega.{arith}
 use lib.Dec.{eqb}
-use lib.ListN.{length, take, set}
+use lib.ListN.{length}
 use Rattle.numbers.specs.Reading.{Out, got, bad, pick}
 use Rattle.files.specs.Table.{Table, W}
-use Rattle.files.specs.File.{tableAt}
 use Rattle.files.proofs.Cases.{reads}
-use Rattle.model.specs.Rules.{Fact, G, P, Q, Derives}
+use Rattle.model.specs.Rules.{Fact}
 use Rattle.model.specs.Errors.{Witness}
-use Rattle.model.specs.Verdict.{Verdict}
 use Rattle.model.specs.Positions.{pos, baseP, baseQ, factAt}
-use Rattle.model.specs.Memory.{FactCount}
-use Rattle.model.specs.Claims.{Claimed, Finding, accepted, lacks-start, not-closed, allows-error, Finds}
-use Rattle.model.proofs.Decide.{decided, Listed, each?}
+use Rattle.model.specs.Claims.{Finding, accepted, lacks-start, not-closed, allows-error}
+use Rattle.model.proofs.Decide.{decided, each?}
 use Rattle.model.proofs.Decide.Least.{exact?, exact-listed, exact-count, exact-verdict}
 use Rattle.model.proofs.Decide.Errors.{verdict?}
 use Rattle.model.proofs.Decide.Claims.{finding?}
 use Rattle.rules.specs.declared.answer.Reply.{Reply}
 use Rattle.rules.specs.Answers.{plain, told}
-use Rattle.claim_files.specs.ClaimFile.{claimAt}
 use Rattle.claim_files.proofs.Cases.{claims}
-use Rattle.claim_checking.specs.Answers.{replyOf}
-use Rattle.claim_checking.proofs.ClaimCases.{answerOf}
-
--- ---- what a case says
-
-pub data Case : Type 0 where
-  -- the table's file is refused, with this number and value
-  refused : (table : List ℕ) (number value : ℕ) → Case
-  -- the table is checked: its W, the number of its facts, these facts, their positions, and the verdict, with its witness if it is "possible"
-  checked : (table : List ℕ) (w count : ℕ) (facts : List Fact) (positions : List ℕ) (verdict : Option Witness) → Case
-  -- the claim for the table claims these positions, and is answered with this number and value
-  claimed : (table claim positions : List ℕ) (number value : ℕ) → Case
-
--- ---- that it is so
-
--- a file is refused
-abbrev pub RefusedAs : {A : Type 0} → ℕ → ℕ → Out A → Type 0
-RefusedAs number value (got a next) = ⊥
-RefusedAs number value (bad r) = told 0 r ≡ plain number value
-
--- a file is read, and what was read is in B
-abbrev pub Reads : {A : Type 0} → (A → Type 0) → Out A → Type 0
-Reads B (got a next) = B a
-Reads B (bad r) = ⊥
-
--- of a table: the least relations hold these facts and no others
-pub record CheckedAs (w count : ℕ) (facts : List Fact) (positions : List ℕ) (verdict : Option Witness) (T : Table) : Type 0 where
-  pub room : W T ≡ w
-  pub counted : FactCount T count
-  pub exactly : Listed (Derives T) facts
-  pub standing : map (pos T) facts ≡ positions
-  pub judged : Verdict T (Derives T) verdict
-
--- of a claim for the table T that was read as ps
-pub record ClaimedAs (positions : List ℕ) (number value : ℕ) (T : Table) (ps : List ℕ) : Type 0 where
-  pub same : ps ≡ positions
-  pub finding : Finding
-  pub finds : Finds T (Claimed T ps) finding
-  pub answer : replyOf (answerOf (length ps) finding) ≡ plain number value
-
-abbrev pub Shown : Case → Type 0
-Shown (refused s number value) = RefusedAs number value (tableAt s)
-Shown (checked s w count facts positions verdict) = Reads (CheckedAs w count facts positions verdict) (tableAt s)
-Shown (claimed s c positions number value) = Reads (λ T. Reads (ClaimedAs positions number value T) (claimAt (W T) c)) (tableAt s)
-
--- ---- the cases
-
--- 29 bytes
-abbrev pub recursion : List ℕ
-recursion =
-    1 ∷ 1 ∷ 2 ∷ 2 ∷ 1 ∷ 0 ∷ 0 ∷ 0 ∷ 1 ∷ 0 ∷ 0 ∷ 0 ∷ 1 ∷ 1 ∷ 1 ∷ 0 ∷ 0 ∷ 0 ∷ 0 ∷ 0 ∷ 1 ∷ 0 ∷ 1 ∷ 1 ∷ 0 ∷ 1 ∷ 1 ∷ 2 ∷ 1 ∷ []
-
--- 12 bytes
-abbrev pub smallest : List ℕ
-smallest = 1 ∷ 1 ∷ 1 ∷ 1 ∷ 0 ∷ 0 ∷ 0 ∷ 0 ∷ 0 ∷ 0 ∷ 0 ∷ 0 ∷ []
-
-unfoldable pub cases : List Case
-cases =
-    checked recursion 36 5 (G 0 0 1 ∷ P 0 0 0 0 0 ∷ P 0 0 0 1 1 ∷ Q 0 0 0 0 0 0 ∷ Q 0 0 0 0 1 1 ∷ []) (1 ∷ 4 ∷ 7 ∷ 20 ∷ 23 ∷ []) none
-    ∷ claimed recursion (1 ∷ 5 ∷ 1 ∷ 3 ∷ 3 ∷ 13 ∷ 3 ∷ []) (1 ∷ 4 ∷ 7 ∷ 20 ∷ 23 ∷ []) 0 5  -- accepted
-    ∷ claimed recursion (1 ∷ 6 ∷ 1 ∷ 3 ∷ 3 ∷ 12 ∷ 1 ∷ 3 ∷ []) (1 ∷ 4 ∷ 7 ∷ 19 ∷ 20 ∷ 23 ∷ []) 0 6  -- accepted though larger
-    ∷ claimed recursion (1 ∷ 4 ∷ 1 ∷ 3 ∷ 3 ∷ 13 ∷ []) (1 ∷ 4 ∷ 7 ∷ 20 ∷ []) 10 23
-    ∷ claimed recursion (1 ∷ 7 ∷ 1 ∷ 3 ∷ 2 ∷ 1 ∷ 13 ∷ 2 ∷ 1 ∷ []) (1 ∷ 4 ∷ 6 ∷ 7 ∷ 20 ∷ 22 ∷ 23 ∷ []) 11 1
-    ∷ claimed recursion (1 ∷ 0 ∷ []) [] 9 0
-    ∷ checked smallest 2 1 (P 0 0 0 0 0 ∷ []) (1 ∷ []) none
-    ∷ checked (set smallest 5 1) 2 1 (P 0 0 0 0 0 ∷ []) (1 ∷ []) (some (record { row = 0; shared = 0; locals = 0 ∷ [] }))
-    ∷ refused (take 11 smallest) 1 11
-    ∷ refused (set smallest 1 5) 4 1
-    ∷ refused [] 1 0
-    ∷ []
+use Rattle.claim_checking.specs.Answers.{replyOf, answerOf}
+use Rattle.claims.specs.Cases.{Case, refused, checked, claimed, RefusedAs, Reads, CheckedAs, ClaimedAs, Shown, cases}
 
 -- ---- the test: where it passes, it gives the proof
 

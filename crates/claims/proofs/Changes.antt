@@ -24,18 +24,7 @@ use Rattle.claim_checking.specs.ClaimChecking.{ClaimChecked}
 use Rattle.claim_writing.specs.Answers.{writeReplyOf}
 use Rattle.claim_writing.specs.ClaimWriting as writing
 use Rattle.claim_writing.specs.ClaimWriting.{ClaimWritten}
-
--- the first W bytes are cleared, for the table that the file holds, and the others are as they were
-pub record Clears (s m m′ : List ℕ) : Type 0 where
-  pub table : Table
-  pub next : ℕ
-  pub is : tableAt s ≡ got table next
-  pub cleared : Cleared (W table) m m′
-
--- what an answer of this number leaves of a memory
-pub record Changes (s m m′ : List ℕ) (number : ℕ) : Type 0 where
-  pub nothing : 1 ≤ number → number ≤ 7 → m′ ≡ m
-  pub clears : 8 ≤ number → Clears s m m′
+use Rattle.claims.specs.Owed.{Changes}
 
 unchanged : {s m : List ℕ} {number : ℕ} → number ≤ 7 → Changes s m m number
 unchanged l = record { nothing = λ _ _. refl; clears = λ h. absurd (omega arith) }

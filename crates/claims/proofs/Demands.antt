@@ -20,8 +20,9 @@ use Rattle.verdict.specs.declared.search.Verdict.the-variants.{Safe, Possible}
 use Rattle.rules.specs.declared.answer.Answer.{Answer}
 use Rattle.rules.specs.declared.answer.Answer.the-variants.{Done}
 use Rattle.rules.specs.Answers.{replyOf}
-use Rattle.rules.specs.Checking.{Checked}
+use Rattle.rules.specs.Checking.{Checked, CheckDone}
 use Rattle.rules.proofs.Unique.{checked-same, checked-answer}
+use Rattle.rules.proofs.Exactly.{check-done}
 use Rattle.claim_files.specs.ClaimFile.{claimAt}
 use Rattle.claim_checking.specs.declared.answer.ClaimAnswer.{ClaimAnswer}
 use Rattle.claim_checking.specs.declared.answer.ClaimAnswer.the-variants.{Accepted}
@@ -31,11 +32,12 @@ use Rattle.claim_checking.specs.Answers as claim
 use Rattle.claim_checking.specs.ClaimChecking.{OfPositions, ClaimChecked}
 use Rattle.claim_writing.specs.Answers.{writeReplyOf}
 use Rattle.claim_writing.specs.ClaimWriting.{ClaimOf, ClaimWritten}
-use Rattle.claims.proofs.Changes.{Changes, check-changes, claim-changes, write-changes}
+use Rattle.claim_writing.specs.ReadBack.{WrittenClaim}
+use Rattle.claims.specs.Owed.{Changes}
+use Rattle.claims.proofs.Changes.{check-changes, claim-changes, write-changes}
 use Rattle.claim_checking.proofs.ClaimCases.{table-was-read, claim-was-read, answer-by-finding}
 use Rattle.claims.proofs.Accepted as accepting
-use Rattle.claim_writing.proofs.PositionsOfFacts.{CheckDone, check-done}
-use Rattle.claim_writing.proofs.WrittenLaws.{WrittenClaim, written-claim, claim-one-to-one, safe-claim-accepted}
+use Rattle.claim_writing.proofs.WrittenLaws.{written-claim, claim-one-to-one, safe-claim-accepted}
 use Rattle.claim_checking.proofs.Unique.{claim-checked-same, claim-answer-same}
 use Rattle.claim_writing.proofs.Unique.{claim-written-same, claim-written-answer}
 

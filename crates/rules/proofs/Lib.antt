@@ -3,7 +3,9 @@
 --   ReadTable   a table that was read: what the check's own functions are lent
 --   Outcomes    the engine's and the verdict's answers are the check's
 --   Unique      two results that a contract allows are equal
+--   Exactly     when a check finishes, by the number of facts and the budget
 pub mod LentRows
 pub mod ReadTable
 pub mod Outcomes
 pub mod Unique
+pub mod Exactly

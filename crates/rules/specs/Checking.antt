@@ -5,7 +5,7 @@ use Prim.Native.Nat.{ℕ, _≤_, _<_}
 use lib.ListN.{length, drop}
 use Rattle.numbers.specs.declared.refusals.Refusal.{Refusal}
 use Rattle.numbers.specs.Reading.{got, bad}
-use Rattle.files.specs.Table.{Table, W}
+use Rattle.files.specs.Table.{Table, Sound, W}
 use Rattle.files.specs.File.{tableAt}
 use Rattle.model.specs.Rules.{Derives}
 use Rattle.model.specs.Memory.{Relations, FactCount, Exceeds}
@@ -39,3 +39,12 @@ pub data Checked (s : List ℕ) (budget : ℕ) (m : List ℕ) : Answer → List 
   -- 1 to 6, as the reader gives them; nothing is changed
   refused : {x : Refusal} → tableAt s ≡ bad x → Checked s budget m (Refused x) m
   read : {T : Table} {next : ℕ} {a : Answer} {m′ : List ℕ} → tableAt s ≡ got T next → OfTable T budget m a m′ → Checked s budget m a m′
+
+-- What a finished check tells. Demand 2 of document 00: "The relations, the fact count, the verdict and the first witness are those of the
+-- published thread-modular rules", here for the table that the file holds.
+pub record CheckDone (s : List ℕ) (budget : ℕ) (m : List ℕ) (count : ℕ) (verdict : Verdict) (m′ : List ℕ) : Type 0 where
+  pub table : Table
+  pub next : ℕ
+  pub is : tableAt s ≡ got table next
+  pub sound : Sound table
+  pub finished : Finished table budget m count verdict m′

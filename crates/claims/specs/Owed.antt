@@ -1,0 +1,24 @@
+-- The words of the demands (document 00) that no contract has.
+--     Clears, Changes    demand 1, what a refusal leaves of the working memory
+use mathlib.Core.Path.{_≡_}
+use mathlib.Core.List.{List}
+use Prim.Native.Nat.{ℕ, _≤_}
+use Rattle.numbers.specs.Reading.{got}
+use Rattle.files.specs.Table.{Table, W}
+use Rattle.files.specs.File.{tableAt}
+use Rattle.store.specs.Marking.{Cleared}
+
+-- ---- demand 1
+
+-- the first W bytes are cleared, for the table that the file s holds, and the others are as they were
+pub record Clears (s m m′ : List ℕ) : Type 0 where
+  pub table : Table
+  pub next : ℕ
+  pub is : tableAt s ≡ got table next
+  pub cleared : Cleared (W table) m m′
+
+-- What an answer of this number leaves of a memory (01, "What comes back": "1 to 7 change nothing; 8 to 12 set the first W bytes to 0."). On 0 it
+-- says nothing: what the memory then holds, the contract of each call says.
+pub record Changes (s m m′ : List ℕ) (number : ℕ) : Type 0 where
+  pub nothing : 1 ≤ number → number ≤ 7 → m′ ≡ m
+  pub clears : 8 ≤ number → Clears s m m′
