@@ -7,7 +7,7 @@
 -- Assumes nothing.
 use mathlib.Core.Path.{_≡_, sym, ap, _∙_}
 use mathlib.Core.List.{List}
-use Prim.Native.Nat.{ℕ, _≤_}
+use Prim.Native.Nat.{ℕ, _≤_, _<_}
 use lib.ListN.{length, take}
 use Rattle.numbers.specs.Reading.{got}
 use Rattle.files.specs.Table.{Table, Sound, W}
@@ -15,14 +15,15 @@ use Rattle.files.specs.File.{tableAt}
 use Rattle.files.proofs.TableLaws.{table-sound}
 use Rattle.model.specs.Runs.{State, Run}
 use Rattle.model.specs.Errors.{ErrorState}
+use Rattle.model.specs.Memory.{FactCount}
 use Rattle.verdict.specs.declared.search.Verdict.{Verdict}
 use Rattle.verdict.specs.declared.search.Verdict.the-variants.{Safe, Possible}
 use Rattle.rules.specs.declared.answer.Answer.{Answer}
-use Rattle.rules.specs.declared.answer.Answer.the-variants.{Done}
+use Rattle.rules.specs.declared.answer.Answer.the-variants.{Done, Over}
 use Rattle.rules.specs.Answers.{replyOf}
 use Rattle.rules.specs.Checking.{Checked, CheckDone}
 use Rattle.rules.proofs.Unique.{checked-same, checked-answer}
-use Rattle.rules.proofs.Exactly.{check-done}
+use Rattle.rules.proofs.Exactly.{check-done, finishes-within, refused-beyond, budget-0-refused}
 use Rattle.claim_files.specs.ClaimFile.{claimAt}
 use Rattle.claim_checking.specs.declared.answer.ClaimAnswer.{ClaimAnswer}
 use Rattle.claim_checking.specs.declared.answer.ClaimAnswer.the-variants.{Accepted}
@@ -94,11 +95,27 @@ pub done-exactly : {s : List ℕ} {budget : ℕ} {m : List ℕ} {count : ℕ} {v
     → Checked s budget m (Done count verdict) m′ → CheckDone s budget m count verdict m′
 done-exactly = check-done
 
--- given a sound table and memory enough, a claim of the right layout is refused only for what is found of its facts: a start fact that lacks, a
--- fact that one use of the rules yields and that is not claimed, or an error that it allows
-pub refused-only-for : {s c ps m m′ : List ℕ} {T : Table} {n next : ℕ} {a : ClaimAnswer} → tableAt s ≡ got T n → W T ≤ length m
-    → claimAt (W T) c ≡ got ps next → ClaimChecked s c m a m′ → OfPositions T ps m a m′
-refused-only-for e room reads h = claim-was-read room reads (table-was-read e h)
+-- a sound table, and memory enough
+module _ {s : List ℕ} {T : Table} {n : ℕ} (e : tableAt s ≡ got T n) {m : List ℕ} (room : W T ≤ length m) where
+  -- c is the number of facts: "It finishes exactly if the least relations hold no more facts (G, P and Q together) than the budget. The reported
+  -- count is that total."
+  module _ {budget c : ℕ} (counted : FactCount T c) {a : Answer} {m′ : List ℕ} (h : Checked s budget m a m′) where
+    pub finishes-if : c ≤ budget → (verdict : Verdict) × (a ≡ Done c verdict)
+    finishes-if = finishes-within e room counted h
+
+    -- 8, and the value is the budget
+    pub finishes-only-if : budget < c → a ≡ Over budget
+    finishes-only-if = refused-beyond e room counted h
+
+  -- "Budget 0, the table sound and the memory W or more: always 8, value 0."
+  pub budget-0-is-8 : {a : Answer} {m′ : List ℕ} → Checked s 0 m a m′ → a ≡ Over 0
+  budget-0-is-8 = budget-0-refused e room
+
+  -- a claim of the right layout is refused only for what is found of its facts: "a missing start fact, a fact that the rules yield from it and it
+  -- lacks, or an error that it allows"
+  pub refused-only-for : {c ps m′ : List ℕ} {next : ℕ} {a : ClaimAnswer} → claimAt (W T) c ≡ got ps next → ClaimChecked s c m a m′
+      → OfPositions T ps m a m′
+  refused-only-for reads h = claim-was-read room reads (table-was-read e h)
 
 -- reading what was written gives exactly the table's facts, and writing is one to one
 pub written-read-back : {s : List ℕ} {budget : ℕ} {m d : List ℕ} {count : ℕ} {verdict : Verdict} {bytes : ℕ} {m′ d′ : List ℕ}
