@@ -9,7 +9,7 @@
 use mathlib.Core.Path.{_≡_, refl, subst⁻¹}
 use mathlib.Core.Option.{some}
 use mathlib.Core.List.{List}
-use Prim.Native.Nat.{ℕ, _≤_}
+use Prim.Native.Nat.{ℕ}
 use lib.ListN.{length}
 use Rattle.numbers.specs.Reading.{got}
 use Rattle.files.specs.Table.{Table, Sound, W}
@@ -30,11 +30,11 @@ use Rattle.rules.specs.Checking.{Checked, read, done}
 use Rattle.rules.proofs.Unique.{was-read}
 use Rattle.claim_files.specs.ClaimFile.{claimAt}
 use Rattle.claim_files.proofs.ClaimIsModel.{claim-counts}
-use Rattle.claim_checking.specs.declared.answer.ClaimAnswer.{ClaimAnswer}
 use Rattle.claim_checking.specs.declared.answer.ClaimAnswer.the-variants.{Accepted}
 use Rattle.claim_checking.specs.ClaimChecking as claims
 use Rattle.claim_checking.specs.ClaimChecking.{Accepts, OfPositions, OfTable, claim-read, ClaimChecked, table-read}
 use Rattle.claim_checking.proofs.ClaimCases.{table-was-read, claim-was-read, answer-by-finding}
+use Rattle.claims.specs.Owed.{IsAccepted}
 
 -- ---- what was read
 
@@ -104,6 +104,6 @@ check-safe-runs {s} {T = T} {n} e h = by (was-read e h)
 
 -- ---- which claims are accepted
 
-pub closed-and-safe-accepted : {s c m m′ ps : List ℕ} {T : Table} {n next : ℕ} {a : ClaimAnswer} → tableAt s ≡ got T n → W T ≤ length m
-    → claimAt (W T) c ≡ got ps next → ClosedWithStarts T (Claimed T ps) → Safe T (Claimed T ps) → ClaimChecked s c m a m′ → a ≡ Accepted (length ps)
-closed-and-safe-accepted e room q both safe r = answer-by-finding (whole both safe) (claim-was-read room q (table-was-read e r))
+pub closed-and-safe-accepted : {s c ps : List ℕ} {T : Table} {n next : ℕ} → tableAt s ≡ got T n → claimAt (W T) c ≡ got ps next
+    → ClosedWithStarts T (Claimed T ps) → Safe T (Claimed T ps) → IsAccepted s T c (length ps)
+closed-and-safe-accepted e reads both safe m m′ a room h = answer-by-finding (whole both safe) (claim-was-read room reads (table-was-read e h))

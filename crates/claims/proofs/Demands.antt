@@ -13,9 +13,12 @@ use Rattle.numbers.specs.Reading.{got}
 use Rattle.files.specs.Table.{Table, Sound, W}
 use Rattle.files.specs.File.{tableAt}
 use Rattle.files.proofs.TableLaws.{table-sound}
+use Rattle.model.specs.Rules.{ClosedWithStarts}
 use Rattle.model.specs.Runs.{State, Run}
+use Rattle.model.specs.Errors as errors
 use Rattle.model.specs.Errors.{ErrorState}
 use Rattle.model.specs.Memory.{FactCount}
+use Rattle.model.specs.Claims.{Claimed}
 use Rattle.verdict.specs.declared.search.Verdict.{Verdict}
 use Rattle.verdict.specs.declared.search.Verdict.the-variants.{Safe, Possible}
 use Rattle.rules.specs.declared.answer.Answer.{Answer}
@@ -34,7 +37,7 @@ use Rattle.claim_checking.specs.ClaimChecking.{OfPositions, ClaimChecked}
 use Rattle.claim_writing.specs.Answers.{writeReplyOf}
 use Rattle.claim_writing.specs.ClaimWriting.{ClaimOf, ClaimWritten}
 use Rattle.claim_writing.specs.ReadBack.{WrittenClaim}
-use Rattle.claims.specs.Owed.{Changes}
+use Rattle.claims.specs.Owed.{Changes, IsAccepted}
 use Rattle.claims.proofs.Changes.{check-changes, claim-changes, write-changes}
 use Rattle.claim_checking.proofs.ClaimCases.{table-was-read, claim-was-read, answer-by-finding}
 use Rattle.claims.proofs.Accepted as accepting
@@ -116,6 +119,11 @@ module _ {s : List ℕ} {T : Table} {n : ℕ} (e : tableAt s ≡ got T n) {m : L
   pub refused-only-for : {c ps m′ : List ℕ} {next : ℕ} {a : ClaimAnswer} → claimAt (W T) c ≡ got ps next → ClaimChecked s c m a m′
       → OfPositions T ps m a m′
   refused-only-for reads h = claim-was-read room reads (table-was-read e h)
+
+-- and one whose facts have the start facts, are closed under the rules and allow no error is accepted, whoever wrote it
+pub closed-and-safe-is-accepted : {s c ps : List ℕ} {T : Table} {n next : ℕ} → tableAt s ≡ got T n → claimAt (W T) c ≡ got ps next
+    → ClosedWithStarts T (Claimed T ps) → errors.Safe T (Claimed T ps) → IsAccepted s T c (length ps)
+closed-and-safe-is-accepted = accepting.closed-and-safe-accepted
 
 -- reading what was written gives exactly the table's facts, and writing is one to one
 pub written-read-back : {s : List ℕ} {budget : ℕ} {m d : List ℕ} {count : ℕ} {verdict : Verdict} {bytes : ℕ} {m′ d′ : List ℕ}

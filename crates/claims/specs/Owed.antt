@@ -1,12 +1,17 @@
 -- The words of the demands (document 00) that no contract has.
 --     Clears, Changes    demand 1, what a refusal leaves of the working memory
+--     IsAccepted         demands 2 and 3, that a claim is accepted
 use mathlib.Core.Path.{_≡_}
 use mathlib.Core.List.{List}
 use Prim.Native.Nat.{ℕ, _≤_}
+use lib.ListN.{length}
 use Rattle.numbers.specs.Reading.{got}
 use Rattle.files.specs.Table.{Table, W}
 use Rattle.files.specs.File.{tableAt}
 use Rattle.store.specs.Marking.{Cleared}
+use Rattle.claim_checking.specs.declared.answer.ClaimAnswer.{ClaimAnswer}
+use Rattle.claim_checking.specs.declared.answer.ClaimAnswer.the-variants.{Accepted}
+use Rattle.claim_checking.specs.ClaimChecking.{ClaimChecked}
 
 -- ---- demand 1
 
@@ -22,3 +27,9 @@ pub record Clears (s m m′ : List ℕ) : Type 0 where
 pub record Changes (s m m′ : List ℕ) (number : ℕ) : Type 0 where
   pub nothing : 1 ≤ number → number ≤ 7 → m′ ≡ m
   pub clears : 8 ≤ number → Clears s m m′
+
+-- ---- demands 2 and 3
+
+-- given memory enough for the table T that the file s holds, the claim check accepts the claim's file c; `count` is the claim's count
+abbrev pub IsAccepted : (s : List ℕ) → Table → (c : List ℕ) → (count : ℕ) → Type 0
+IsAccepted s T c count = (m m′ : List ℕ) (a : ClaimAnswer) → W T ≤ length m → ClaimChecked s c m a m′ → a ≡ Accepted count
