@@ -2,10 +2,11 @@
 --     Checked       what the check promises (rules/specs/Checking.antt)
 --     ClaimChecked  what the claim check promises (claim_checking/specs/ClaimChecking.antt)
 --     ClaimWritten  what claim writing promises (claim_writing/specs/ClaimWriting.antt)
+-- and of the demands' own words (claims/specs/Owed.antt).
 -- Each of the three functions is proved to end and to meet its contract on every input, with no `requires`. Here s is a table's file and c a
 -- claim's; m is the working memory before a call and m′ after it; d is the space for a claim, and d′ the space after the call.
 -- Assumes nothing.
-use mathlib.Core.Path.{_≡_, sym, ap, _∙_}
+use mathlib.Core.Path.{_≡_}
 use mathlib.Core.List.{List}
 use Prim.Native.Nat.{ℕ, _≤_, _<_}
 use lib.ListN.{length, take}
@@ -37,11 +38,12 @@ use Rattle.claim_checking.specs.ClaimChecking.{OfPositions, ClaimChecked}
 use Rattle.claim_writing.specs.Answers.{writeReplyOf}
 use Rattle.claim_writing.specs.ClaimWriting.{ClaimOf, ClaimWritten}
 use Rattle.claim_writing.specs.ReadBack.{WrittenClaim}
-use Rattle.claims.specs.Owed.{Changes, IsAccepted}
+use Rattle.claims.specs.Owed.{Changes, IsAccepted, RoomForClaim}
 use Rattle.claims.proofs.Changes.{check-changes, claim-changes, write-changes}
-use Rattle.claim_checking.proofs.ClaimCases.{table-was-read, claim-was-read, answer-by-finding}
+use Rattle.claim_checking.proofs.ClaimCases.{table-was-read, claim-was-read}
 use Rattle.claims.proofs.Accepted as accepting
-use Rattle.claim_writing.proofs.WrittenLaws.{written-claim, claim-one-to-one, safe-claim-accepted}
+use Rattle.claims.proofs.OwnClaims.{safe-accepted, safe-written}
+use Rattle.claim_writing.proofs.WrittenLaws.{written-claim, claim-one-to-one}
 use Rattle.claim_checking.proofs.Unique.{claim-checked-same, claim-answer-same}
 use Rattle.claim_writing.proofs.Unique.{claim-written-same, claim-written-answer}
 
@@ -144,13 +146,16 @@ module _ {s : List ℕ} {T : Table} {n : ℕ} (e : tableAt s ≡ got T n) where
   pub safe-means-safe : {budget : ℕ} {m m′ : List ℕ} {count : ℕ} → Checked s budget m (Done count Safe) m′ → {x : State} → Run T x → ¬ ErrorState T x
   safe-means-safe = accepting.check-safe-runs e
 
--- when the check says safe and the claim has room, the written claim is accepted
-pub safe-is-accepted : {s : List ℕ} {budget : ℕ} {m d : List ℕ} {count bytes : ℕ} {m′ d′ n n′ : List ℕ} {a : ClaimAnswer}
-    → (w : ClaimWritten s budget m d (Written count Safe bytes) m′ d′) → W (written-claim w .table) ≤ length n
-    → ClaimChecked s (take bytes d′) n a n′ → a ≡ Accepted count
-safe-is-accepted w room h =
-    let k = written-claim w in
-    answer-by-finding (safe-claim-accepted k) (claim-was-read room (k .reads) (table-was-read (k .claim .is) h)) ∙ ap Accepted (sym (k .counts))
+  -- the claim that was written with the verdict safe is accepted
+  pub safe-is-accepted : {budget : ℕ} {m d : List ℕ} {count bytes : ℕ} {m′ d′ : List ℕ}
+      → ClaimWritten s budget m d (Written count Safe bytes) m′ d′ → IsAccepted s T (take bytes d′) count
+  safe-is-accepted = safe-accepted e
+
+  -- and it is written, with this verdict, when the check says safe and budget, memory and room for the claim are enough
+  pub safe-is-written : {budget : ℕ} {m m′ k d k′ d′ : List ℕ} {count : ℕ} {a : WriteAnswer} → Checked s budget m (Done count Safe) m′
+      → W T ≤ length k → RoomForClaim s T d → ClaimWritten s budget k d a k′ d′
+      → (bytes : ℕ) × (a ≡ Written count Safe bytes) × IsAccepted s T (take bytes d′) count
+  safe-is-written = safe-written e
 
 -- when it says possible, every claim for that table is refused
 pub possible-is-refused : {s c : List ℕ} {budget : ℕ} {m m′ k k′ : List ℕ} {facts count row g l0 l1 l2 l3 : ℕ}

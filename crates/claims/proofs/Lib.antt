@@ -2,8 +2,10 @@
 --   Demands    the three demands: open it first
 --   Changes    which refusals change what
 --   Accepted   what it means that a claim is accepted
+--   OwnClaims  what the check calls safe, claim writing writes, and the claim check accepts
 --   Cases      document 01's cases marked P, as one table and one statement
 pub mod Demands
 pub mod Changes
 pub mod Accepted
+pub mod OwnClaims
 pub mod Cases

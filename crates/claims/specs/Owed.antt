@@ -1,6 +1,7 @@
 -- The words of the demands (document 00) that no contract has.
 --     Clears, Changes    demand 1, what a refusal leaves of the working memory
 --     IsAccepted         demands 2 and 3, that a claim is accepted
+--     RoomForClaim       demand 3, that there is room for the claim
 use mathlib.Core.Path.{_≡_}
 use mathlib.Core.List.{List}
 use Prim.Native.Nat.{ℕ, _≤_}
@@ -12,6 +13,7 @@ use Rattle.store.specs.Marking.{Cleared}
 use Rattle.claim_checking.specs.declared.answer.ClaimAnswer.{ClaimAnswer}
 use Rattle.claim_checking.specs.declared.answer.ClaimAnswer.the-variants.{Accepted}
 use Rattle.claim_checking.specs.ClaimChecking.{ClaimChecked}
+use Rattle.claim_writing.specs.ClaimWriting.{ClaimOf}
 
 -- ---- demand 1
 
@@ -33,3 +35,7 @@ pub record Changes (s m m′ : List ℕ) (number : ℕ) : Type 0 where
 -- given memory enough for the table T that the file s holds, the claim check accepts the claim's file c; `count` is the claim's count
 abbrev pub IsAccepted : (s : List ℕ) → Table → (c : List ℕ) → (count : ℕ) → Type 0
 IsAccepted s T c count = (m m′ : List ℕ) (a : ClaimAnswer) → W T ≤ length m → ClaimChecked s c m a m′ → a ≡ Accepted count
+
+-- "room for the claim enough": the space d is no shorter than the claim of the table's facts
+abbrev pub RoomForClaim : (s : List ℕ) → Table → (d : List ℕ) → Type 0
+RoomForClaim s T d = (bytes : List ℕ) → ClaimOf s T bytes → length bytes ≤ length d
