@@ -107,17 +107,6 @@ module _ {U : Uses} where
   swept-none {b} true e = puts {b = b} {r = b} puts-idle (λ h. absurd (omega arith))
   swept-none {b} false e = looks (looked-idle {b = b} (λ h. absurd (omega arith)))
 
-  pub swept-puts : {b r : Pass} {m m′ : List ℕ} → Swept U true b r m m′ → Puts U b r m m′
-  swept-puts (puts p done) = p
-
-  pub swept-le : {b r : Pass} {m m′ : List ℕ} → Swept U true b r m m′ → r .left ≤ b .left
-  swept-le s = puts-le (swept-puts s)
-
--- a pass over some of the uses, after what was put
-pub puts-swept : {A U : Uses} (part : (q x y : ℕ) → A q x y → U q x y) {b r s : Pass} {m m₁ m₂ : List ℕ} → Puts U b r m m₁
-    → Swept A true r s m₁ m₂ → Puts U b s m m₂
-puts-swept part p s = puts-then p (puts-to part (swept-puts s))
-
 -- ---- one pass, then another
 
 module _ {A B : Uses} where
@@ -187,10 +176,6 @@ module _ (A : ℕ → Uses) where
   pub upto-spent : {i n : ℕ} {put : Bool} {b r : Pass} {m m′ : List ℕ} → i ≤ n → r .left ≡ 0 → Swept (Upto A i) put b r m m′
       → Swept (Upto A n) put b r m m′
   upto-spent h = swept-spent (λ q x y u. record { k = u .k; lt = omega (arith, u .lt); given = u .given })
-
-  -- one pass of a loop that puts
-  pub puts-upto : {i n : ℕ} {b r : Pass} {m m′ : List ℕ} → i < n → Puts (A i) b r m m′ → Puts (Upto A n) b r m m′
-  puts-upto {i} h = puts-to (λ q x y u. record { k = i; lt = h; given = u })
 
 -- ---- a pass under a test
 
@@ -304,39 +289,3 @@ one-at {x′} {y} {put} {b} {r} {m} {m′} p q s =
 pub swept-empty : {U : Uses} (x : ℕ) {n : ℕ} {b : Pass} {m : List ℕ} (put : Bool)
     → ((q z y : ℕ) → U q z y → Has m q → Has m z → SomeIn m x n) → ¬ SomeIn m x n → Swept U put b b m m
 swept-empty x put needs n = swept-idle put (λ y l. n (needs _ _ _ (l .given) (l .has-q) (l .has-x)))
-
--- ---- the same pass again, until it puts nothing
-
--- passes that went before: none; or some that put
-pub data Went (U : Uses) : Bool → Pass → Pass → List ℕ → List ℕ → Type 0 where
-  not-yet : {put : Bool} {b : Pass} {m : List ℕ} → Went U put b b m m
-  on : {b r : Pass} {m m′ : List ℕ} → Puts U b r m m′ → Went U true b r m m′
-
-module _ {U : Uses} where
-  pub went-room : {put : Bool} {b r : Pass} {m m′ : List ℕ} → Went U put b r m m′ → room m′ ≡ room m
-  went-room not-yet = refl
-  went-room (on p) = puts-room p
-
-  -- a pass that put something
-  pub went-on : {put : Bool} {b r s : Pass} {m m₁ m₂ : List ℕ} → Went U put b r m m₁ → Swept U put r s m₁ m₂ → ¬ (s .left ≡ r .left)
-      → Went U put b s m m₂
-  went-on w (looks k) n = absurd (n (k .left))
-  went-on not-yet (puts p done) n = on p
-  went-on (on q) (puts p done) n = on (puts-then q p)
-
-  -- and so fewer are left
-  pub went-less : {put : Bool} {r s : Pass} {m₁ m₂ : List ℕ} → Swept U put r s m₁ m₂ → ¬ (s .left ≡ r .left) → s .left < r .left
-  went-less (looks k) n = absurd (n (k .left))
-  went-less {r} {s} (puts p done) n = go (decLt (s .left) (r .left))
-    where
-      go : Dec (s .left < r .left) → s .left < r .left
-      go (yes l) = l
-      go (no l) = absurd (n (omega (arith, puts-le p)))
-
-  -- the last pass
-  pub went-last : {put : Bool} {b r s : Pass} {m m₁ m₂ : List ℕ} → Went U put b r m m₁ → Swept U put r s m₁ m₂ → Swept U put b s m m₂
-  went-last not-yet s = s
-  went-last {b} {r} {s} {m} (on q) (puts p done) =
-      puts (puts-then q p) λ h e y l.
-      let same : r .left ≡ b .left = omega (arith, puts-le q, puts-le p) in
-      done h (omega arith) y (subst (λ z. Lacks U z y) (sym (puts-none q same)) l)
