@@ -261,8 +261,14 @@ fn all_positions() {
 // W is 2, and there is one fact.
 const SMALLEST: [u8; 12] = [1, 1, 1, 1, 0, 0, 0, 0, 0, 0, 0, 0];
 
-// The claim of no fact lacks thread 0's start fact. For the training table (W is 9,600; that of the mutex
-// table is 1,600) the others' follow: the claims of the start facts of thread
+// The claim of no fact for the mutex table, whose W is 1,600.
+fn mutex_without_starts() {
+    let mutex = training::mutex_file();
+    let none = [1u8, 0];
+    check(&mutex, 1600, &none, MOST);
+}
+
+// The claim of no fact lacks thread 0's start fact. For the training table (W is 9,600) the others' follow: the claims of the start facts of thread
 // 0, of threads 0 and 1, and of all three, which is not closed.
 fn starts() {
     text(b"starts\n");
@@ -270,8 +276,7 @@ fn starts() {
     let training = training::file();
     check(&RECURSION, 36, &none, MOST);
     check(&SMALLEST, 2, &none, MOST);
-    let mutex = training::mutex_file();
-    check(&mutex, 1600, &none, MOST);
+    mutex_without_starts();
     check(&training, 9600, &none, MOST);
     check(&training, 9600, b"\x01\x01\xCF\x04", MOST);
     check(&training, 9600, b"\x01\x02\xCF\x04\xC0\x18", MOST);
