@@ -28,7 +28,7 @@
  *
  * What a caller owes: each pointer leads to as many bytes as its length says (with length 0 it is
  * not followed), `told` to eleven numbers, and what is written, which is memory, space and told,
- * overlaps with nothing else that is handed in. A call keeps nothing, takes some 10 KB of stack
+ * overlaps with nothing else that is handed in. A call keeps nothing, takes some 20 KB of stack
  * and no other memory, and always returns. Threads may call at the same time. */
 #ifndef TRUPPIDANE_H
 #define TRUPPIDANE_H
