@@ -132,8 +132,8 @@ fn watch(table: &[u8], bytes: usize, budget: usize, from: usize) {
     io::write_all(STDOUT_FILENO, b"\n");
 }
 
-// Where the check is done or there are more facts than the budget, the first W bytes change, from 0xAA to 0 or 1, and those from W on do not; where the
-// memory is short or the table is refused, none does.
+// Where the check is done or there are more facts than the budget, the first W bytes change, from 0xAA to 0 or 1, and those from W on do not;
+// where the memory is short or the table is refused, none does.
 fn left_alone() {
     watch(&RECURSION, MOST, 5, 0);
     watch(&RECURSION, MOST, 5, 36);

@@ -19,7 +19,8 @@ use Rattle.model.specs.Claims.{Claimed, Finds}
 use Rattle.store.specs.Marking.{Cleared}
 use Rattle.rules.specs.Lent.{Stored}
 use Rattle.claim_files.specs.declared.reading.Claimed.the-variants as reader
-use Rattle.claim_files.specs.ClaimFile.{claimAt, IsClaim, claimedOf, positionsOf}
+use Rattle.claim_files.specs.ClaimFile.{claimAt}
+use Rattle.claim_files.specs.ClaimAnswers.{IsClaim, claimedOf, positionsOf}
 use Rattle.claim_files.proofs.ClaimLaws.{claimed-refused}
 use Rattle.claim_files.proofs.RoundTrip.{claim-ascending}
 use Rattle.claim_files.proofs.PositionsOfMarks.{ascending-below}

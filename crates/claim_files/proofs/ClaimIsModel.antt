@@ -12,8 +12,9 @@ use Rattle.model.specs.Rules.{Fact}
 use Rattle.model.specs.Memory.{Says, holds, fails, Holds, CountOf}
 use Rattle.model.specs.Claims.{Claimed}
 use Rattle.model.proofs.Claims.{claimed-held}
-use Rattle.model.proofs.Memory.{total-counts}
-use Rattle.claim_files.specs.ClaimFile.{Ascending, claimAt, positionsOf}
+use Rattle.model.proofs.Memory.{says-one, says-yes, says-cast, total-counts}
+use Rattle.claim_files.specs.ClaimFile.{Ascending, claimAt}
+use Rattle.claim_files.specs.ClaimAnswers.{positionsOf}
 use Rattle.claim_files.specs.Marks.{positionsIn, Marks}
 use Rattle.claim_files.specs.Stages.{markedAll}
 use Rattle.claim_files.proofs.ClaimMarks.{marks-made, marks-of}
@@ -21,14 +22,10 @@ use Rattle.claim_files.proofs.MarkedPositions.{positions-total}
 use Rattle.claim_files.proofs.RoundTrip.{claim-ascending}
 use Rattle.claim_files.proofs.PositionsOfMarks.{ascending-below, positions-of-marks, positions-back}
 
--- a mark that says something is 0 or 1, and says whether it is 1
+-- a mark that says something is 0 or 1
 says-bit : {A : Type 0} {x : ℕ} → Says A x → x ≤ 1
 says-bit (holds _) = omega arith
 says-bit (fails _) = omega arith
-
-says-one : {A B : Type 0} {x : ℕ} → Says A x → (x ≡ 1 → B) → (B → x ≡ 1) → Says B x
-says-one (holds _) to fro = holds (to refl)
-says-one (fails _) to fro = fails (λ b. absurd (omega (arith, fro b)))
 
 module _ {T : Table} (sound : Sound T) {w : ℕ} (facts : W T ≡ w) where
   marks-held : {ps mem : List ℕ} → Ascending w ps → Marks w ps mem → Holds T (Claimed T ps) mem
@@ -45,7 +42,7 @@ module _ {T : Table} (sound : Sound T) {w : ℕ} (facts : W T ≡ w) where
   written-held {mem = mem} h =
       let a = positions-of-marks w mem in
       claimed-held sound (positionsIn w mem) (λ p i. omega (arith, a .marked p i)) mem (h .long)
-      (λ p l. says-one (h .says p l) (a .listed p (omega arith)) (λ i. a .marked p i .1))
+      (λ p l. let s = h .says p l in says-cast (λ x. a .listed p (omega arith) (says-yes s x)) (λ i. says-one s (a .marked p i .1)) s)
 
   -- its count is the number of facts that the memory holds
   pub written-counts : {S : Fact → Type 0} (mem : List ℕ) → Holds T S mem → CountOf T S (length (positionsIn w mem))

@@ -22,7 +22,8 @@ use Rattle.reader.specs.declared.ends.End.the-variants.{Past, Refused}
 use Rattle.reader.specs.Ends.{endOf, endAfter}
 use Rattle.reader.proofs.EndLaws.{end-past, end-refused, end-after}
 use Rattle.claim_files.specs.declared.reading.Claimed.the-variants as claimed
-use Rattle.claim_files.specs.ClaimFile.{countAt, positionsAt, restAt, claimAt, IsClaim, claimedOf}
+use Rattle.claim_files.specs.ClaimFile.{countAt, positionsAt, restAt, claimAt}
+use Rattle.claim_files.specs.ClaimAnswers.{IsClaim, claimedOf}
 use Rattle.claim_files.proofs.PositionLaws.{positions-count}
 
 -- ---- what is known of an end

@@ -10,7 +10,8 @@ use Rattle.numbers.specs.Reading.{got}
 use Rattle.model.specs.Memory.{mark, Says, holds, fails}
 use Rattle.store.specs.Marking.{room, Has, marked, Clear}
 use Rattle.store.proofs.MarkLaws.{BitsTo, put-room, has-put, has-before, has-kept, bits-put, clear-none, clear-bits}
-use Rattle.claim_files.specs.ClaimFile.{AscendingFrom, Ascending, countAt, positionsAt, claimAt, IsClaim, positionsOf}
+use Rattle.claim_files.specs.ClaimFile.{AscendingFrom, Ascending, countAt, positionsAt, claimAt}
+use Rattle.claim_files.specs.ClaimAnswers.{IsClaim, positionsOf}
 use Rattle.claim_files.specs.Marks.{Marks}
 use Rattle.claim_files.specs.Stages.{markedAll}
 use Rattle.claim_files.proofs.PositionLaws.{positions-ascending}

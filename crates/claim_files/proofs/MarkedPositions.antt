@@ -11,6 +11,7 @@ use native.Mathlib.Omega.{arith}
 use borrow.Author.Tests.{eq-eqb, ne-eqb}
 use lib.ListN.{length}
 use Rattle.model.specs.Memory.{mark, total}
+use Rattle.model.proofs.Memory.{unmarked}
 use Rattle.store.specs.Marking.{Has, NextMark}
 use Rattle.store.proofs.MarkLaws.{BitsTo, has?}
 use Rattle.store.proofs.NextLaws.{next-past, next-first, next-skip}
@@ -42,11 +43,6 @@ unfolding positionsIn
 positions-most w mem = marked-most mem 0 w
 
 -- ---- how many there are, in a memory whose first w marks are 0 or 1
-
-unmarked : (x : ℕ) → x ≤ 1 → ¬ (x ≡ 1) → x ≡ 0
-unmarked zero h n = refl
-unmarked (suc zero) h n = absurd (n refl)
-unmarked (suc (suc x)) h n = absurd (omega arith)
 
 module _ (mem : List ℕ) where
   -- one more position is looked at

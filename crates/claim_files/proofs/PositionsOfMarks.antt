@@ -11,7 +11,8 @@ use lib.ListN.{take}
 use lib.Seq.{getD-take}
 use Rattle.numbers.specs.Reading.{got}
 use Rattle.numbers.proofs.RoundTrip.{Bytes}
-use Rattle.model.specs.Memory.{mark, Says, holds, fails}
+use Rattle.model.specs.Memory.{mark}
+use Rattle.model.proofs.Memory.{says-one, says-yes}
 use Rattle.store.specs.Marking.{Has}
 use Rattle.store.proofs.MarkLaws.{has?}
 use Rattle.claim_files.specs.ClaimFile.{AscendingFrom, Ascending, claimAt, claimBytes}
@@ -108,14 +109,6 @@ marked-same {w} {mem} {ps} {qs} a b =
     (λ p i. let h = b .marked p i in a .listed p (h .0) (h .1))
 
 -- ---- what a claim marked is what is written
-
-says-yes : {A : Type 0} {x : ℕ} → Says A x → A → x ≡ 1
-says-yes (holds _) a = refl
-says-yes (fails n) a = absurd (n a)
-
-says-one : {A : Type 0} {x : ℕ} → Says A x → x ≡ 1 → A
-says-one (holds a) e = a
-says-one (fails n) e = absurd (omega arith)
 
 pub positions-back : {w : ℕ} {ps mem : List ℕ} → Ascending w ps → Marks w ps mem → positionsIn w mem ≡ ps
 positions-back {w} {ps} {mem} a m =

@@ -15,7 +15,8 @@ use Rattle.lists.specs.Rows.{push}
 use Rattle.reader.specs.Ends.{endOf}
 use Rattle.store.specs.Marking.{room, marked}
 use Rattle.store.proofs.MarkLaws.{put-room}
-use Rattle.claim_files.specs.ClaimFile.{positionAt, positionsAt, positionsOf}
+use Rattle.claim_files.specs.ClaimFile.{positionAt, positionsAt}
+use Rattle.claim_files.specs.ClaimAnswers.{positionsOf}
 use Rattle.claim_files.specs.Stages.{markedAll}
 use Rattle.claim_files.proofs.PositionLaws.{position-got, positions-none, positions-more, positions-stop, positions-first}
 

@@ -1,7 +1,7 @@
 -- Two results that a contract allows are equal, the answer and every byte lent: for each public function, of its contract as the prover reads it
 -- from the source (`Post`). All but one are equations. The memory that `mark_claim` leaves is told byte by byte, so two are equal byte by byte.
 -- Assumes nothing.
-use mathlib.Core.Path.{_≡_, refl}
+use mathlib.Core.Path.{_≡_}
 use mathlib.Core.List.{List}
 use Prim.Native.Nat.{ℕ}
 use native.Mathlib.Omega.{arith}
@@ -11,8 +11,8 @@ use denote.Ref.{now}
 use denote.Triple.Clauses.{AtExit}
 use borrow.Fn.Kinds.{Dens, resT, endedOf}
 use Rattle.numbers.proofs.Unique.{same, Fixes}
-use Rattle.model.specs.Memory.{Says, holds, fails}
-use Rattle.claim_files.specs.ClaimFile.{ClaimPut}
+use Rattle.model.proofs.Unique.{says-same}
+use Rattle.claim_files.specs.ClaimAnswers.{ClaimPut}
 use Rattle.claim_files.specs.Marks.{Marks}
 use Rattle.claim_files.proofs.reading.read_claim.Reads as read-claim
 use Rattle.claim_files.proofs.reading.read_claim.Kinds as read-claim-kinds
@@ -30,13 +30,6 @@ pub claim-width-fixes : Fixes claim-width-kinds.ps claim-width-kinds.r claim-wid
 claim-width-fixes κs a x x′ s s′ = same
 
 -- ---- a memory that marks positions
-
--- marks that say one thing are equal
-says-same : {A : Type 0} {x y : ℕ} → Says A x → Says A y → x ≡ y
-says-same (holds a) (holds b) = refl
-says-same (holds a) (fails n) = absurd (n a)
-says-same (fails n) (holds b) = absurd (n b)
-says-same (fails n) (fails m) = refl
 
 pub marks-unique : {w : ℕ} {ps mem mem′ : List ℕ} → Marks w ps mem → Marks w ps mem′ → mem ≡ mem′
 marks-unique {mem = mem} {mem′} m m′ =

@@ -9,12 +9,14 @@ use lib.ListN.{length, length-append}
 use lib.Seq.{sets, length-sets}
 use Rattle.numbers.specs.Writing.{bytesOf}
 use Rattle.numbers.proofs.WritingLaws.{one-to-four-bytes}
-use Rattle.lists.proofs.RowMemory.{sets-append}
+use Rattle.numbers.specs.Putting.{Put}
+use Rattle.numbers.proofs.PutLaws.{sets-append, put-then}
 use Rattle.store.specs.Marking.{NextMark}
 use Rattle.claim_files.specs.declared.writing.Sizes.{Sizes}
-use Rattle.claim_files.specs.ClaimFile.{distancesFrom, bytesOfAll, claimBytes, ClaimPut}
+use Rattle.claim_files.specs.ClaimFile.{distancesFrom, bytesOfAll, claimBytes}
+use Rattle.claim_files.specs.ClaimAnswers.{ClaimPut}
 use Rattle.claim_files.specs.Marks.{markedFrom, positionsIn}
-use Rattle.claim_files.specs.Stages.{positionBytes, sizesOf, Put}
+use Rattle.claim_files.specs.Stages.{positionBytes, sizesOf}
 use Rattle.claim_files.proofs.MarkedPositions.{Coming, coming, positions-most}
 
 -- ---- the bytes of positions
@@ -127,20 +129,20 @@ module _ {mem : List ℕ} {w at : ℕ} {space₀ : List ℕ} where
         let b = bytes-more last p (markedFrom mem (p + 1) (w - (p + 1))) in
         let d = rw (a .1, b, length-append) at (s .room) in
         let e = rw (a .1, b, length-append) at (s .past) in
-        let l : length space′ ≡ length space = ap length (put .same) ∙ length-sets space next (bytesOf (p - last)) in
+        let l : length space′ ≡ length space = ap length (put .bytes) ∙ length-sets space next (bytesOf (p - last)) in
         record {
           rest = markedFrom mem (p + 1) (w - (p + 1));
           ahead = coming mem w p (p + 1) q (omega arith) (omega arith) f;
           long = l ∙ s .long;
           room = omega (arith, put .next);
-          same = rw (a .1, b, ← sets-append, ← put .same, ← put .next) at (s .same);
+          same = rw (a .1, b, ← sets-append, ← put .bytes, ← put .next) at (s .same);
           past = omega (arith, put .next);
         }
 
     pub write-end : w ≤ p → Put (positionBytes 0 (positionsIn w mem)) at space₀ space next
     write-end h =
         let z = s .ahead .none h in
-        record { same = sym (rw (z, bytes-none) at (s .same)); next = sym (rw (z, bytes-none) at (s .past) ∙ add-zero next) }
+        record { bytes = sym (rw (z, bytes-none) at (s .same)); next = sym (rw (z, bytes-none) at (s .past) ∙ add-zero next) }
 
 -- ---- the whole claim
 
@@ -163,16 +165,9 @@ module _ (mem : List ℕ) (w : ℕ) {r : Sizes} (is : r ≡ sizesOf (positionsIn
   pub sizes-claim : length (claimBytes (positionsIn w mem)) ≡ length (bytesOf 1) + length (bytesOf (r .count)) + r .width
   sizes-claim = claim-wide (positionsIn w mem) ∙ rw (sizes-count, sizes-width)
 
-pub put-then : {xs ys d d′ d″ : List ℕ} {at m r : ℕ} → Put xs at d d′ m → Put ys m d′ d″ r → Put (xs ++ ys) at d d″ r
-put-then {xs} {ys} {d} {at = at} p q =
-    record {
-      same = q .same ∙ cc (p .same, p .next, sets-append xs ys d at);
-      next = omega (arith, p .next, q .next, length-append xs ys);
-    }
-
 -- the version, the count and the positions, one after the other, are the claim
 pub claim-put : (ps : List ℕ) {d d₁ d₂ d₃ : List ℕ} {m n r : ℕ} → Put (bytesOf 1) 0 d d₁ m → Put (bytesOf (length ps)) m d₁ d₂ n
     → Put (positionBytes 0 ps) n d₂ d₃ r → ClaimPut ps d d₃ r
 claim-put ps {d} v c l =
     let p = put-then v (put-then c l) in
-    record { bytes = p .same ∙ rw (bytes-claim ps); count = p .next ∙ rw (bytes-claim ps, zero-add) }
+    record { bytes = p .bytes ∙ rw (bytes-claim ps); count = p .next ∙ rw (bytes-claim ps, zero-add) }

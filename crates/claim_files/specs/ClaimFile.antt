@@ -2,16 +2,12 @@
 -- as its distance from the one before, at least 1. Every position is below W." The first position is its distance from 0, which may be 0;
 -- so one definition serves for the first and for the further ones.
 use Prim.Native.Nat.{ℕ, zero, suc, _+_, _-_, _≤_, _<_}
-use mathlib.Core.Path.{_≡_}
 use mathlib.Core.List.{List, [], _∷_, flatMap}
 use lib.ListN.{length}
-use lib.Seq.{sets}
-use Rattle.numbers.specs.Reading.{Out, got, bad, then, fieldAt, versionAt}
+use Rattle.numbers.specs.Reading.{Out, got, then, fieldAt, versionAt}
 use Rattle.numbers.specs.Writing.{bytesOf}
 use Rattle.lists.specs.Rows.{push}
 use Rattle.reader.specs.Ends.{atEnd}
-use Rattle.claim_files.specs.declared.reading.Claimed.{Claimed}
-use Rattle.claim_files.specs.declared.reading.Claimed.the-variants as claimed
 
 -- ---- reading, the first fault wins
 
@@ -35,12 +31,6 @@ restAt w k s at = then (positionsAt w k 0 0 s at) λ ps next. atEnd ps s next
 -- the positions that the file s claims, where W is w
 unfoldable pub claimAt : ℕ → List ℕ → Out (List ℕ)
 claimAt w s = then (countAt w s) λ k next. restAt w k s next
-
--- s is read as a claim
-pub record IsClaim (w : ℕ) (s : List ℕ) : Type 0 where
-  pub positions : List ℕ
-  pub next : ℕ
-  pub reads : claimAt w s ≡ got positions next
 
 -- ---- writing
 
@@ -67,19 +57,3 @@ AscendingFrom w least (p ∷ ps) = (least ≤ p) × (p < w) × AscendingFrom w (
 
 abbrev pub Ascending : ℕ → List ℕ → Type 0
 Ascending w ps = AscendingFrom w 0 ps
-
--- ---- what the code answers
-
-abbrev pub claimedOf : Out (List ℕ) → Claimed
-claimedOf (got ps next) = claimed.Read (length ps)
-claimedOf (bad r) = claimed.Refused r
-
--- the positions that were read; none where the file is refused
-abbrev pub positionsOf : Out (List ℕ) → List ℕ
-positionsOf (got ps next) = ps
-positionsOf (bad r) = []
-
--- The claim of ps is written: `after` is `before` with its bytes at the start and no other byte changed, and r is how many bytes that is.
-pub record ClaimPut (ps before after : List ℕ) (r : ℕ) : Type 0 where
-  pub bytes : after ≡ sets before 0 (claimBytes ps)
-  pub count : r ≡ length (claimBytes ps)

@@ -1,9 +1,7 @@
 -- What the private functions answer. Only their contracts cite this file.
-use mathlib.Core.Path.{_≡_}
 use mathlib.Core.List.{List, [], _∷_}
-use Prim.Native.Nat.{ℕ, _+_}
+use Prim.Native.Nat.{ℕ}
 use lib.ListN.{length}
-use lib.Seq.{sets}
 use Rattle.store.specs.Marking.{marked}
 use Rattle.claim_files.specs.declared.writing.Sizes.{Sizes}
 use Rattle.claim_files.specs.ClaimFile.{distancesFrom, bytesOfAll}
@@ -20,8 +18,3 @@ positionBytes last ps = bytesOfAll (distancesFrom last ps)
 -- how many positions there are, and how many bytes they take in a claim
 abbrev pub sizesOf : List ℕ → Sizes
 sizesOf ps = record { count = length ps; width = length (positionBytes 0 ps) }
-
--- `after` is `before` with the bytes from `at` on, and r is the place past them
-pub record Put (bytes : List ℕ) (at : ℕ) (before after : List ℕ) (r : ℕ) : Type 0 where
-  pub same : after ≡ sets before at bytes
-  pub next : r ≡ at + length bytes

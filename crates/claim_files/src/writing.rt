@@ -4,11 +4,13 @@ ghost use mathlib.Core.Path.{_≡_};
 ghost use Prim.Native.Nat.{_+_, _≤_};
 ghost use lib.ListN.{length};
 ghost use Rattle.numbers.specs.Writing.{bytesOf};
+ghost use Rattle.numbers.specs.Putting.{Put};
 ghost use Rattle.files.specs.Table.{mostFacts};
 ghost use Rattle.store.specs.Marking.{room};
-ghost use Rattle.claim_files.specs.ClaimFile.{claimBytes, ClaimPut};
+ghost use Rattle.claim_files.specs.ClaimFile.{claimBytes};
+ghost use Rattle.claim_files.specs.ClaimAnswers.{ClaimPut};
 ghost use Rattle.claim_files.specs.Marks.{positionsIn};
-ghost use Rattle.claim_files.specs.Stages.{positionBytes, sizesOf, Put};
+ghost use Rattle.claim_files.specs.Stages.{positionBytes, sizesOf};
 use store::marks::next_mark;
 
 // The version of a claim.

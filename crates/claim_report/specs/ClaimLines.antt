@@ -1,43 +1,36 @@
 -- The lines that the programs on claims print of an answer. What they have in common with a listing's lines (document 01, "Reference tables and
--- results") reads as it does there.
+-- results") reads as it does there; the first line of an answer of claim writing is a listing's `lineOfReply`.
 use mathlib.Core.List.{List, []}
-use Prim.Native.Nat.{ℕ, zero, suc}
+use Prim.Native.Nat.{ℕ}
+use lib.Dec.{eqb}
+use Rattle.numbers.specs.Reading.{pick}
+use Rattle.verdict.specs.declared.search.Verdict.{Verdict}
 use Rattle.text.specs.Listing.{bytesLine, acceptedLine, claimRefusedLine}
-use Rattle.report.specs.Answers.{lineOfReply, lineOfVerdict}
+use Rattle.report.specs.Answers.{lineOfVerdict}
+use Rattle.rules.specs.declared.answer.Reply.{Reply}
 use Rattle.claim_writing.specs.declared.answer.WriteAnswer.{WriteAnswer}
 use Rattle.claim_writing.specs.declared.answer.WriteAnswer.the-variants.{Written, Refused, Short, Over, NoSpace}
-use Rattle.claim_writing.specs.Answers.{writeReplyOf}
-use Rattle.claim_checking.specs.declared.answer.ClaimAnswer.{ClaimAnswer}
-use Rattle.claim_checking.specs.Answers.{replyOf}
 
 -- ---- claim writing
 
--- the number of facts, or the one line `refused` with number and value
-abbrev pub firstLine : WriteAnswer → List ℕ
-firstLine a = lineOfReply (writeReplyOf a .number) (writeReplyOf a .value)
+-- a line by the verdict and the number of bytes, where a claim is written; a refusal has none
+abbrev pub whereWritten : (Verdict → ℕ → List ℕ) → WriteAnswer → List ℕ
+whereWritten text (Written count verdict bytes) = text verdict bytes
+whereWritten text (Refused refusal) = []
+whereWritten text (Short room) = []
+whereWritten text (Over budget) = []
+whereWritten text (NoSpace needed) = []
 
--- the verdict on a table of n threads, where a claim is written; a refusal has none
+-- the verdict on a table of n threads
 abbrev pub verdictLine : ℕ → WriteAnswer → List ℕ
-verdictLine n (Written count verdict bytes) = lineOfVerdict n verdict
-verdictLine n (Refused refusal) = []
-verdictLine n (Short room) = []
-verdictLine n (Over budget) = []
-verdictLine n (NoSpace needed) = []
+verdictLine n = whereWritten (λ verdict bytes. lineOfVerdict n verdict)
 
--- how many bytes the claim takes, where one is written
+-- how many bytes the claim takes
 abbrev pub bytesLineOf : WriteAnswer → List ℕ
-bytesLineOf (Written count verdict bytes) = bytesLine bytes
-bytesLineOf (Refused refusal) = []
-bytesLineOf (Short room) = []
-bytesLineOf (Over budget) = []
-bytesLineOf (NoSpace needed) = []
+bytesLineOf = whereWritten (λ verdict bytes. bytesLine bytes)
 
 -- ---- the claim check
 
--- by the answer's number, value and origin: 0 is accepted, and its value is the claim's count
-abbrev pub lineOfClaimReply : ℕ → ℕ → ℕ → List ℕ
-lineOfClaimReply zero value origin = acceptedLine value
-lineOfClaimReply (suc n) value origin = claimRefusedLine (suc n) value origin
-
-abbrev pub checkedLine : ClaimAnswer → List ℕ
-checkedLine a = lineOfClaimReply (replyOf a .number) (replyOf a .value) (replyOf a .origin)
+-- of an answer's reply: number 0 is accepted, and its value is the claim's count
+abbrev pub lineOfClaimReply : Reply → List ℕ
+lineOfClaimReply r = pick (eqb (r .number) 0) (acceptedLine (r .value)) (claimRefusedLine (r .number) (r .value) (r .origin))

@@ -1,6 +1,7 @@
 // The line of an answer of the claim check.
 ghost use Rattle.words.specs.Text.{Written};
-ghost use Rattle.claim_report.specs.ClaimLines.{checkedLine};
+ghost use Rattle.claim_checking.specs.Answers.{replyOf};
+ghost use Rattle.claim_report.specs.ClaimLines.{lineOfClaimReply};
 use claim_checking::answer::ClaimAnswer;
 use claim_checking::answer::reply_of;
 use text::lines::ROOM;
@@ -9,7 +10,7 @@ use text::lines::claim_refused_line;
 
 // The line of an answer: the number of facts that an accepted claim claims, or the refusal. Gives its length.
 pub fn checked_line(answer: ClaimAnswer, out: &mut [u8; ROOM]) -> usize
-    ensures { λ r. ⌜ Written (checkedLine answer) (now (out .entry)) (now (out .exit)) r ⌝ }
+    ensures { λ r. ⌜ Written (lineOfClaimReply (replyOf answer)) (now (out .entry)) (now (out .exit)) r ⌝ }
 {
     let reply = reply_of(answer);
     let number = reply.number as usize;

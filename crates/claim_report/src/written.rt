@@ -1,7 +1,8 @@
 // The lines of an answer of claim writing: the first for any answer, and two more where a claim is written.
 ghost use Rattle.words.specs.Text.{Written};
-ghost use Rattle.report.specs.Answers.{threadsOf};
-ghost use Rattle.claim_report.specs.ClaimLines.{firstLine, verdictLine, bytesLineOf};
+ghost use Rattle.claim_writing.specs.Answers.{writeReplyOf};
+ghost use Rattle.report.specs.Answers.{threadsOf, lineOfReply};
+ghost use Rattle.claim_report.specs.ClaimLines.{verdictLine, bytesLineOf};
 use claim_writing::answer::WriteAnswer;
 use claim_writing::answer::write_reply_of;
 use rules::answer::Answer;
@@ -11,7 +12,7 @@ use text::lines::refused_line;
 
 // The first line of an answer: the number of facts, or the refusal. Gives its length.
 pub fn first_line(answer: WriteAnswer, out: &mut [u8; ROOM]) -> usize
-    ensures { λ r. ⌜ Written (firstLine answer) (now (out .entry)) (now (out .exit)) r ⌝ }
+    ensures { λ r. ⌜ Written (lineOfReply (writeReplyOf answer)) (now (out .entry)) (now (out .exit)) r ⌝ }
 {
     let reply = write_reply_of(answer);
     let number = reply.number as usize;

@@ -23,7 +23,17 @@ use Rattle.engine.specs.Turns.{rowsOf, NextRow, Covered, Behind, Turning
 use Rattle.uses.proofs.PassLaws.{swept-idle}
 use Rattle.engine.proofs.EmptyRows.{p-row-some}
 use Rattle.engine.proofs.RowNumbers.{rows-pos}
-use Rattle.engine.proofs.Covering.{swept-fewer, covered-fewer, covered-none, covered-then, covered-same, covered-spent, covered-put, covered-new, covered-all}
+use Rattle.engine.proofs.Covering.{
+  swept-fewer,
+  covered-fewer,
+  covered-none,
+  covered-then,
+  covered-same,
+  covered-spent,
+  covered-put,
+  covered-new,
+  covered-all,
+}
 
 -- ---- the number that falls, for R rows: x is what is left and what was left before, r is the row
 

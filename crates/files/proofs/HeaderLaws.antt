@@ -16,7 +16,7 @@ use Rattle.reader.specs.declared.ends.End.the-variants.{Past, Refused}
 use Rattle.lists.specs.declared.rows.RowRead.{RowRead}
 use Rattle.lists.specs.Rows.{rowAt}
 use Rattle.files.specs.Header.{sizeColumns, placeColumns, localColumns, sizesOf, headerOf, headerAt, noHeader, headerReadOf}
-use Rattle.lists.specs.Stages.{rowOf}
+use Rattle.lists.specs.Answers.{rowOf}
 use Rattle.reader.specs.Ends.{endOf, after}
 
 -- the answer of three rows' cells and the last one's end

@@ -1,6 +1,7 @@
 -- What is known of a table that was read.
 --     table-got      its header and its four lists were read, one after the other, up to the end of the file
 --     table-sound    every number is in its range, no list is too long, and rows ascend
+--     four-numbers   four local stores are a list of their numbers
 --     header-back    its header is the one that was read
 --     cell-stands    cell j of row i stands at byte 5 * i + j of its list's memory
 -- Assumes nothing.
@@ -211,6 +212,15 @@ table-sound s t next e =
     (sound (g .header) (header-fits s (g .header) (g .p₀) (g .header-was)) (g .steps) (g .pushes) (g .pops) (g .errors)
     (list-good _ _ _ _ _ _ (g .steps-were)) (list-good _ _ _ _ _ _ (g .pushes-were))
     (list-good _ _ _ _ _ _ (g .pops-were)) (list-good _ _ _ _ _ _ (g .errors-were)))
+
+-- a list of four is its numbers
+pub four-numbers : (xs : List ℕ) → length xs ≡ 4 → fourOf xs ≡ xs
+four-numbers [] e = absurd (omega arith)
+four-numbers (a ∷ []) e = absurd (omega arith)
+four-numbers (a ∷ b ∷ []) e = absurd (omega arith)
+four-numbers (a ∷ b ∷ c ∷ []) e = absurd (omega arith)
+four-numbers (a ∷ b ∷ c ∷ d ∷ []) e = refl
+four-numbers (a ∷ b ∷ c ∷ d ∷ x ∷ xs) e = absurd (omega arith)
 
 -- the table's header is the one that was read
 four-back : (n : ℕ) (xs : List ℕ) → length xs ≡ 4 → ((t : ℕ) → n ≤ t → getD xs t 0 ≡ 0) → fourOf (take n xs) ≡ xs

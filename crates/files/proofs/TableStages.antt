@@ -23,7 +23,7 @@ use Rattle.lists.specs.Columns.{stepColumns, pushColumns, popColumns, errorColu
 use Rattle.lists.specs.Rows.{listAt, flat}
 use Rattle.files.specs.Header.{headerAt, headerReadOf}
 use Rattle.files.specs.File.{stepOf, pushOf, popOf, errorOf, tableOf, tableAt, headerIn, tableReadOf, TableIs}
-use Rattle.lists.specs.Stages.{listOf, listAfter, listHeld}
+use Rattle.lists.specs.ListAnswers.{listOf, listAfter, listHeld}
 use Rattle.reader.specs.Ends.{atEnd, endOf, after, endAfter}
 use Rattle.reader.proofs.EndLaws.{end-past, end-refused, end-after}
 use Rattle.lists.proofs.ListFits.{list-good}

@@ -1,7 +1,7 @@
 -- A whole table file (document 01, "The table, in file order" and "What comes back"): the table that it holds, or the refusal.
 use Prim.Native.Nat.{ℕ}
 use mathlib.Core.Path.{_≡_}
-use mathlib.Core.List.{List, map}
+use mathlib.Core.List.{List, [], _∷_, map}
 use lib.ListN.{length, getD, take, drop, replicate}
 use lib.Seq.{sets}
 use Rattle.numbers.specs.Reading.{Out, got, bad, then}
@@ -14,7 +14,7 @@ use Rattle.files.specs.Table.{Table, Step, Push, Pop, Error, stepCells, 
 use Rattle.files.specs.Table.{mostSteps, mostPushes, mostPops, mostErrors}
 use Rattle.lists.specs.Columns.{stepColumns, pushColumns, popColumns, errorColumns}
 use Rattle.lists.specs.Rows.{listAt, flat}
-use Rattle.files.specs.Header.{fourOf, headerAt, noHeader}
+use Rattle.files.specs.Header.{headerOf, headerAt, noHeader}
 
 -- ---- the table of a header and four lists of rows
 
@@ -62,29 +62,14 @@ tableAt s =
 -- ---- what the code answers
 
 abbrev pub headerIn : Table → Header
-headerIn T =
-    record {
-      sizes = record { threads = T .n; shared = T .G; locals = T .L; frames = T .F };
-      failed = T .failed;
-      start = T .g₀;
-      firsts = fourOf (T .locals);
-    }
+headerIn T = headerOf (T .n ∷ T .G ∷ T .L ∷ T .F ∷ []) (T .failed ∷ T .g₀ ∷ []) (T .locals)
 
 abbrev pub countsIn : Table → Counts
-countsIn T =
-    record {
-      steps = length (T .steps);
-      pushes = length (T .pushes);
-      pops = length (T .pops);
-      errors = length (T .errors);
-    }
-
-abbrev pub noCounts : Counts
-noCounts = record { steps = 0; pushes = 0; pops = 0; errors = 0 }
+countsIn T = record { steps = length (T .steps); pushes = length (T .pushes); pops = length (T .pops); errors = length (T .errors) }
 
 abbrev pub tableReadOf : Out Table → TableRead
 tableReadOf (got T next) = record { header = headerIn T; counts = countsIn T; outcome = Accepted }
-tableReadOf (bad r) = record { header = noHeader; counts = noCounts; outcome = Refused r }
+tableReadOf (bad r) = record { header = noHeader; counts = record { steps = 0; pushes = 0; pops = 0; errors = 0 }; outcome = Refused r }
 
 abbrev pub stepBytes : Table → List ℕ
 stepBytes T = flat (map stepCells (T .steps))

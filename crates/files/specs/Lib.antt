@@ -1,4 +1,4 @@
--- What a table file means (document 01, "The table, in file order"). The layers above need Table alone.
+-- What a table file means (document 01, "The table, in file order"). Crate model needs Table alone; those above it cite the others too.
 --   Table      a table as a record, its limits, when it is sound, its room W
 --   Header     reading the header
 --   File       reading the whole file, and what the reader answers and stores

@@ -1,5 +1,5 @@
 -- A table (document 01, "The table, in file order"): what a file says, with no bytes in it, and when every number of it is in its range.
--- The layers above know a table by these records alone.
+-- Crate model knows a table by these records alone.
 use mathlib.Core.Path.{_≡_}
 use mathlib.Core.List.{List, [], _∷_, map, List·Memᴰ}
 use Prim.Native.Nat.{ℕ, _+_, _*_, _≤_, _<_}
@@ -126,7 +126,7 @@ pub record Rows {A : Type 0} (most : ℕ) (Fits : A → Type 0) (cells : A → L
   pub fits : (r : A) → List·Memᴰ r rows → Fits r
   pub ascending : Ascending (map cells rows)
 
--- what the reader accepts
+-- what is known of a table that the reader accepts
 pub record Sound (T : Table) : Type 0 where
   pub n : (1 ≤ T .n) × (T .n ≤ mostThreads)
   pub G : (1 ≤ T .G) × (T .G ≤ mostShared)

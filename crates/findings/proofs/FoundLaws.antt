@@ -20,7 +20,7 @@ use Rattle.engine.specs.Answers as engine
 use Rattle.engine.specs.Answers.{Confirmed}
 use Rattle.verdict.specs.declared.search.Verdict.{Verdict}
 use Rattle.verdict.specs.declared.search.Verdict.the-variants.{Safe, Possible}
-use Rattle.verdict.specs.Judged.{Judged}
+use Rattle.verdict.specs.ErrorRows.{Judged}
 use Rattle.verdict.proofs.Answers.{possible-row, safe-none}
 use Rattle.rules.proofs.Outcomes.{w-by}
 use Rattle.findings.specs.Found.{Started, lacking, whole}

@@ -32,7 +32,8 @@ module _ {T : Table} (sound : Sound T) {s : Plan} (plan : s ≡ planOf T) {g : �
   marked-start : {m : List ℕ} (t : ℕ) → t < T .n → Marked T m (startFact T t) → Has m (startAt s g locals t)
   marked-start {m} t h a = subst (Has m) (stands t h) (marked-has a)
 
-  pub first-lacking : {m : List ℕ} (t : ℕ) → t < s .n → ((u : ℕ) → u < t → Has m (startAt s g locals u)) → ¬ Has m (startAt s g locals t) → Started T m t
+  pub first-lacking : {m : List ℕ} (t : ℕ) → t < s .n → ((u : ℕ) → u < t → Has m (startAt s g locals u)) → ¬ Has m (startAt s g locals t)
+      → Started T m t
   first-lacking t h before n =
       let i : t < T .n = omega (arith, threads-by T plan) in
       lacking

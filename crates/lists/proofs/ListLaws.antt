@@ -21,8 +21,9 @@ use Rattle.reader.specs.declared.ends.End.the-variants.{Past}
 use Rattle.lists.specs.declared.rows.ListRead.{ListRead}
 use Rattle.lists.specs.Order.{below}
 use Rattle.lists.specs.Rows.{push, rowAt, nextRow, rowsAt, listAt, flat}
-use Rattle.lists.specs.Stages.{oldOf, listOf, ListKept}
-use Rattle.lists.proofs.RowMemory.{sets-append}
+use Rattle.lists.specs.ListAnswers.{listOf}
+use Rattle.lists.specs.Stages.{oldOf, ListKept}
+use Rattle.numbers.proofs.PutLaws.{sets-append}
 use Rattle.lists.proofs.RowLaws.{onward, onward-none, onward-push}
 use Rattle.lists.proofs.RowFits.{row-long}
 

@@ -17,8 +17,10 @@ use Rattle.numbers.proofs.ReadingLaws.{never}
 use Rattle.lists.specs.declared.columns.Column.{Column}
 use Rattle.lists.specs.declared.rows.CellRead.the-variants as cell
 use Rattle.lists.specs.Rows.{push, cellAt, rowAt}
-use Rattle.lists.specs.Stages.{cellOf, noCells}
-use Rattle.lists.proofs.RowMemory.{sets-append, sets-whole}
+use Rattle.lists.specs.Answers.{noCells}
+use Rattle.lists.specs.Stages.{cellOf}
+use Rattle.numbers.proofs.PutLaws.{sets-append}
+use Rattle.lists.proofs.RowMemory.{sets-whole}
 
 -- ---- what the code's answer tells
 

@@ -1,15 +1,14 @@
 -- Rows in memory, five bytes a row.
 --     five-stored     five stores, one after the other, store a row
---     sets-append     a run of stores past a run of stores is one run
 --     Wiped, wipe-…   the bytes before place i are 0
 --     sets-whole      a run of stores over the whole memory leaves nothing of what was there
 -- Assumes nothing.
 use mathlib.Core.Path.{_≡_, refl, sym, ap, _∙_}
-use mathlib.Core.List.{List, [], _∷_, _++_, append-nil}
+use mathlib.Core.List.{List, [], _∷_, append-nil}
 use Prim.Native.Nat.{ℕ, suc, _+_, _≤_, _<_}
 use native.Mathlib.Omega.{arith}
 use native.Mathlib.Numerals.{add-one}
-use native.Mathlib.Nat.{add-zero, zero-add, add-suc, suc-add}
+use native.Mathlib.Nat.{zero-add}
 use lib.ListN.{length, getD, set, take, replicate, length-set, replicate-append-replicate}
 use lib.Seq.{sets, sets-eq, drop-length, take-all, take-suc-set}
 
@@ -35,10 +34,6 @@ five-sets d b v w x y z =
 pub five-stored : (d r : List ℕ) (b : ℕ) → length r ≡ 5
     → set (set (set (set (set d b (getD r 0 0)) (b + 1) (getD r 1 0)) (b + 2) (getD r 2 0)) (b + 3) (getD r 3 0)) (b + 4) (getD r 4 0) ≡ sets d b r
 five-stored d r b h = five-sets d b _ _ _ _ _ ∙ ap (sets d b) (sym (five-cells r h))
-
-pub sets-append : (xs ys d : List ℕ) (b : ℕ) → sets (sets d b xs) (b + length xs) ys ≡ sets d b (xs ++ ys)
-sets-append [] ys d b = rw (add-zero b)
-sets-append (x ∷ xs) ys d b = rw (add-suc b (length xs), ← suc-add b (length xs)) (sets-append xs ys (set d b x) (suc b))
 
 pub sets-whole : (vs d : List ℕ) → length vs ≡ length d → sets d 0 vs ≡ vs
 sets-whole vs d h = sets-eq vs d 0 (omega arith) ∙ rw (zero-add (length vs), h, drop-length) (append-nil vs)

@@ -12,7 +12,9 @@ use Rattle.numbers.proofs.ReadingLaws.{never}
 use Rattle.reader.specs.declared.ends.End.the-variants.{Past, Refused}
 use Rattle.lists.specs.declared.rows.RowRead.{RowRead}
 use Rattle.lists.specs.declared.rows.ListRead.{ListRead}
-use Rattle.lists.specs.Stages.{rowOf, listOf, ListKept, listHeld}
+use Rattle.lists.specs.Answers.{rowOf}
+use Rattle.lists.specs.ListAnswers.{listOf, listHeld}
+use Rattle.lists.specs.Stages.{ListKept}
 
 -- ---- a row
 

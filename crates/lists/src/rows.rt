@@ -7,7 +7,10 @@ ghost use lib.Seq.{sets};
 ghost use Rattle.numbers.specs.Reading.{bad, fieldAt};
 ghost use Rattle.lists.specs.Order.{below};
 ghost use Rattle.lists.specs.Rows.{cellAt, rowAt, nextRow, rowsAt, listAt};
-ghost use Rattle.lists.specs.Stages.{cellOf, rowOf, rowAfter, oldOf, listOf, ListKept, listAfter, listHeld};
+ghost use Rattle.lists.specs.Answers.{rowOf};
+ghost use Rattle.lists.specs.ListAnswers.{listOf, listAfter, listHeld};
+ghost use Rattle.lists.specs.Stages.{cellOf, oldOf, ListKept};
+ghost use Rattle.reader.specs.Ends.{after};
 use crate::columns::Column;
 use numbers::reading::Read;
 use numbers::refusals::Refusal;
@@ -104,7 +107,7 @@ fn row(src: &[u8], at: usize, columns: [Column; 5]) -> RowRead
 
 // The row after a part of the file: where that was refused, so is the row.
 pub fn row_after(src: &[u8], before: End, columns: [Column; 5]) -> RowRead
-    ensures { λ r. ⌜ r ≡ rowOf (rowAfter before columns (now (src .entry))) ⌝ }
+    ensures { λ r. ⌜ r ≡ rowOf (after before (rowAt columns (now (src .entry)))) ⌝ }
 {
     match before {
         End::Past { next } => row(src, next, columns),

@@ -1,7 +1,8 @@
 -- Members of lists that are built: of one or two elements, of two lists together, of a list under a condition, and of a list for each
--- member of another. A law named from-… says where a member comes from, and one named to-… puts it in.
+-- member of another. A law named from-… says where a member comes from, and one named to-… puts it in. And what stands at a number of a list.
 -- Assumes nothing.
-use mathlib.Core.Path.{refl, subst, subst⁻¹}
+use mathlib.Core.Path.{_≡_, refl, subst, subst⁻¹}
+use mathlib.Core.Option.{some}
 use mathlib.Core.Logic.{_⊎_, inl, inr}
 use mathlib.Core.List.{
   List,
@@ -16,6 +17,9 @@ use mathlib.Core.List.{
   Memᴰ·append-right,
   List·Memᴰ·append-cases,
 }
+use Prim.Native.Nat.{ℕ, zero, suc, _<_}
+use native.Mathlib.Omega.{arith}
+use lib.ListN.{length, getElem?}
 
 module _ {A : Type 0} where
   pub mem-first : {x : A} {xs : List A} → List·Memᴰ x (x ∷ xs)
@@ -90,3 +94,11 @@ module _ {A B : Type 0} {C : A → Type 0} where
       → List·Memᴰ b (gather d f xs)
   unfolding gather
   to-gather d f {a} i c m = to-flatMap (λ a. only (d a) (f a)) i (to-only (d a) c m)
+
+-- ---- what stands at a number
+
+-- there is no entry past the last
+pub some-lt : {A : Type 0} (xs : List A) (i : ℕ) {a : A} → getElem? xs i ≡ some a → i < length xs
+some-lt [] i e = let z : _≡_ {A = ℕ} 0 1 = cc in absurd (omega arith)
+some-lt (x ∷ xs) zero e = omega arith
+some-lt (x ∷ xs) (suc i) e = omega (arith, some-lt xs i e)

@@ -34,13 +34,19 @@ use Rattle.model.proofs.Positions.{pos-lt, factAt-pos, factAt-stands}
 
 -- ---- a mark
 
-says-one : {A : Type 0} {x : ℕ} → Says A x → x ≡ 1 → A
+pub says-one : {A : Type 0} {x : ℕ} → Says A x → x ≡ 1 → A
 says-one (holds a) e = a
 says-one (fails n) e = absurd (omega arith)
 
-says-yes : {A : Type 0} {x : ℕ} → Says A x → A → x ≡ 1
+pub says-yes : {A : Type 0} {x : ℕ} → Says A x → A → x ≡ 1
 says-yes (holds _) a = refl
 says-yes (fails n) a = absurd (n a)
+
+-- a mark of 0 or 1 that is not 1 is 0
+pub unmarked : (x : ℕ) → x ≤ 1 → ¬ (x ≡ 1) → x ≡ 0
+unmarked zero h n = refl
+unmarked (suc zero) h n = absurd (n refl)
+unmarked (suc (suc x)) h n = absurd (omega arith)
 
 -- a mark of 0 or 1 says whether it is 1
 bit-says : (x : ℕ) → x ≤ 1 → Says (x ≡ 1) x

@@ -79,7 +79,7 @@ pub record Stands (T : Table) (p : ℕ) (f : Fact) : Type 0 where
   pub here : pos T f ≡ p
 
 -- a product above something has no factor 0
-right-pos : (m c : ℕ) {q : ℕ} → q < m * c → zero < c
+pub right-pos : (m c : ℕ) {q : ℕ} → q < m * c → zero < c
 right-pos m zero h = omega arith
 right-pos m (suc c) h = omega arith
 

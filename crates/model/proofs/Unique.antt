@@ -34,7 +34,7 @@ use Rattle.model.proofs.Order.{≼-antisym, witness-by-numbers}
 -- ---- the memory
 
 -- marks that say one thing are equal
-says-same : {A : Type 0} {x y : ℕ} → Says A x → Says A y → x ≡ y
+pub says-same : {A : Type 0} {x y : ℕ} → Says A x → Says A y → x ≡ y
 says-same (holds a) (holds b) = refl
 says-same (holds a) (fails n) = absurd (n a)
 says-same (fails n) (holds b) = absurd (n b)

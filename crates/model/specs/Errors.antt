@@ -18,7 +18,7 @@ pub record Matches (T : Table) (r : Error) (g : ℕ) (ls : List ℕ) : Type 0 wh
   pub shared : Cell (r .shared) g
   pub locals : (t : ℕ) → t < T .n → Cell (getD (r .locals) t 0) (getD ls t 0)
 
--- g, ls are erroneous by a row: row 0 if some thread's local store is the failed one, else a row of the file, counted from 1
+-- g, ls are erroneous by a row: by row 0 if some thread's local store is the failed one, or by a row of the file, counted from 1, that matches
 pub data Erroneous (T : Table) (g : ℕ) (ls : List ℕ) : ℕ → Type 0 where
   failed : (t : ℕ) → t < T .n → T .failed ≡ suc (getD ls t 0) → Erroneous T g ls 0
   matched : (i : ℕ) (r : Error) → getElem? (T .errors) i ≡ some r → Matches T r g ls → Erroneous T g ls (suc i)

@@ -17,7 +17,8 @@ use Rattle.numbers.specs.Reading.{Out, got, bad, then, pick}
 use Rattle.numbers.proofs.ReadingLaws.{never}
 use Rattle.reader.specs.declared.ends.End.the-variants.{Past, Refused}
 use Rattle.reader.specs.Places.{leftFrom}
-use Rattle.reader.specs.Ends.{atEnd, endOf, endAfter, endedOf}
+use Rattle.reader.specs.Ends.{atEnd, endOf, endAfter}
+use Rattle.reader.specs.Ended.{endedOf}
 
 module _ (s : List ℕ) (at : ℕ) where
   by-test : (t : Bool) → ltb at (length s) ≡ t → endedOf (leftFrom s at) at ≡ endOf (atEnd (tt {0}) s at)

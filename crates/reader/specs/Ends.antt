@@ -2,7 +2,7 @@
 use Prim.Native.Nat.{ℕ}
 use mathlib.Core.List.{List}
 use lib.ListN.{length}
-use lib.Dec.{ltb, eqb}
+use lib.Dec.{ltb}
 use Rattle.numbers.specs.Reading.{Out, got, bad, pick}
 use Rattle.numbers.specs.declared.refusals.Refusal.the-variants.{After}
 use Rattle.reader.specs.declared.ends.End.{End}
@@ -26,7 +26,3 @@ after (Refused r) f = bad r
 -- the end of the file after a part of it
 abbrev pub endAfter : End → List ℕ → End
 endAfter e s = endOf (after e (atEnd (tt {0}) s))
-
--- the end of a file at a place where so many bytes are left
-abbrev pub endedOf : ℕ → ℕ → End
-endedOf left place = pick (eqb left 0) (Past place) (Refused (After place))

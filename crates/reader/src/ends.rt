@@ -1,6 +1,7 @@
 // Where a part of a file ends, and the end of the whole.
 ghost use mathlib.Core.Path.{_≡_};
-ghost use Rattle.reader.specs.Ends.{endedOf, endAfter};
+ghost use Rattle.reader.specs.Ends.{endAfter};
+ghost use Rattle.reader.specs.Ended.{endedOf};
 use numbers::refusals::Refusal;
 
 // The place past a part that was read, or why it was refused.

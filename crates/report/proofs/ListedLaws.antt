@@ -1,8 +1,8 @@
 -- What the next mark is, is listed next.
---     next-short, next-none, next-line      what comes next, by the plan
+--     next-short, next-none, next-line      what comes next, by a table's plan
 --     goes-on                               after a line, the list goes on further on
 --     was-read, was-refused, got-header     what the header's reader tells
---     header-sizes, next-read               a header that was read has a plan, and what comes next by it is what comes next of the file
+--     header-sizes                          a header that was read has a plan
 -- Assumes nothing.
 use mathlib.Core.Path.{_≡_, sym, ap, subst, _∙_}
 use mathlib.Core.List.{List}
@@ -16,60 +16,82 @@ use Rattle.numbers.proofs.ReadingLaws.{never}
 use Rattle.files.specs.declared.header.Header.{Header}
 use Rattle.files.specs.declared.header.HeaderRead.{HeaderRead}
 use Rattle.reader.specs.declared.ends.End.the-variants.{Past, Refused}
-use Rattle.files.specs.Table.{mostThreads, mostShared, mostLocals, mostFrames}
+use Rattle.files.specs.Table.{Table, W, mostThreads, mostShared, mostLocals, mostFrames}
 use Rattle.files.specs.Header.{headerAt, headerReadOf}
 use Rattle.files.proofs.TableLaws.{header-fits}
+use Rattle.model.specs.Rules.{Fact}
+use Rattle.model.specs.Positions.{factAt}
 use Rattle.store.specs.declared.plan.Plan.{Plan}
-use Rattle.store.specs.Marking.{room, NextMark}
+use Rattle.store.specs.Plans.{planOf}
+use Rattle.store.specs.Marking.{Has, MarkFrom, NextMark}
+use Rattle.store.proofs.PlanIsModel.{w-is}
 use Rattle.store.proofs.NextLaws.{next-found, next-end}
 use Rattle.words.specs.Text.{Counts, Written}
 use Rattle.text.specs.Listing.{factLine}
 use Rattle.text.specs.Facts.{planFact}
+use Rattle.text.proofs.FactLaws.{fact-of-table}
 use Rattle.report.specs.declared.facts.Next.{Next}
 use Rattle.report.specs.declared.facts.Next.the-variants.{Line, End}
-use Rattle.report.specs.Listed.{NextIn, line, end, NextOf, read, refused, planIn}
+use Rattle.report.specs.Listed.{Listed, NextIn, line, end, MarkedIn, NextOf, read, refused}
 
 -- ---- what comes next
 
-module _ {s : Plan} {mem : List ℕ} {from : ℕ} {before : List ℕ} where
-  pub next-short : room mem < s .w → NextIn s mem from before End before
-  next-short l = end (λ p k. omega (arith, k .enough))
+-- of a table with plan s
+module _ (T : Table) {s : Plan} (is : s ≡ planOf T) where
+  w-of : s .w ≡ W T
+  w-of = ap (λ (x : Plan). x .w) is ∙ w-is T
 
-  module _ {p : ℕ} where
-    pub next-none : NextMark mem from (s .w) p → p ≡ s .w → NextIn s mem from before End before
-    next-none m e = end (λ q k. next-end m e q (k .mark))
+  module _ {mem : List ℕ} {from : ℕ} where
+    -- what is listed is a mark, and in a memory with room for all facts the other way round
+    mark-of : {p : ℕ} → Listed T (MarkedIn T mem) from p → MarkFrom mem from (s .w) p
+    unfolding Has
+    mark-of k = record { past = k .past; below = omega (arith, w-of, k .below); has = k .here .one }
 
-    pub next-line : {length : ℕ} {after : List ℕ} → s .w ≤ room mem → NextMark mem from (s .w) p → ¬ (p ≡ s .w)
-        → Written (factLine (planFact s p)) before after length → NextIn s mem from before (Line length (p + 1)) after
-    next-line r m n w =
-        let f = next-found m n in
-        line (record { here = record { enough = r; mark = f .here }; none = λ q b k. f .none q b (k .mark) }) w
+    listed-of : {p : ℕ} → s .w ≤ length mem → MarkFrom mem from (s .w) p → Listed T (MarkedIn T mem) from p
+    unfolding Has
+    listed-of r k =
+        record { past = k .past; below = omega (arith, w-of, k .below); here = record { enough = omega (arith, w-of); one = k .has } }
+
+    module _ {before : List ℕ} where
+      pub next-short : length mem < s .w → NextIn T (MarkedIn T mem) from before End before
+      next-short l = end (λ p k. omega (arith, w-of, k .here .enough))
+
+      module _ {p : ℕ} where
+        pub next-none : NextMark mem from (s .w) p → p ≡ s .w → NextIn T (MarkedIn T mem) from before End before
+        next-none m e = end (λ q k. next-end m e q (mark-of k))
+
+        pub next-line : {k : ℕ} {after : List ℕ} → s .w ≤ length mem → NextMark mem from (s .w) p → ¬ (p ≡ s .w)
+            → Written (factLine (planFact s p)) before after k → NextIn T (MarkedIn T mem) from before (Line k (p + 1)) after
+        next-line {k} {after} r m n w =
+            let f = next-found m n in
+            line (record { here = listed-of r (f .here); none = λ q b i. f .none q b (mark-of i) })
+            (subst (λ (x : Fact). Written (factLine x) before after k) (ap (λ (x : Plan). planFact x p) is ∙ fact-of-table T p) w)
 
 -- ---- going on
 
 -- after a line the list goes on further on, and no further than the memory; and the line is in its buffer
 pub record GoesOn (mem : List ℕ) (from : ℕ) (before after : List ℕ) (k next : ℕ) : Type 0 where
   pub further : from < next
-  pub within : next ≤ room mem
+  pub within : next ≤ length mem
   pub here : Counts k after
   pub same : length after ≡ length before
 
 module _ {mem : List ℕ} {from : ℕ} {before : List ℕ} {k next : ℕ} where
-  goes-on-in : {s : Plan} {r : Next} {after : List ℕ} → NextIn s mem from before r after → r ≡ Line k next → GoesOn mem from before after k next
-  goes-on-in {s} (line {p} {length = j} f w) e =
+  goes-on-in : (T : Table) {r : Next} {after : List ℕ} → NextIn T (MarkedIn T mem) from before r after → r ≡ Line k next
+      → GoesOn mem from before after k next
+  goes-on-in T (line {p} {length = j} f w) e =
       let n : p + 1 ≡ next = cc in
       let l : j ≡ k = cc in
-      let m = f .here .mark in
       record {
-        further = omega (arith, m .past);
-        within = omega (arith, m .below, f .here .enough);
+        further = omega (arith, f .here .past);
+        within = omega (arith, f .here .below, f .here .here .enough);
         here = rw (sym l) (w .room);
-        same = ap length (w .bytes) ∙ length-sets before 0 (factLine (planFact s p));
+        same = ap length (w .bytes) ∙ length-sets before 0 (factLine (factAt T p));
       }
-  goes-on-in (end none) e = never (cc)
+  goes-on-in T (end none) e = never (cc)
 
   pub goes-on : {s : List ℕ} {r : Next} {after : List ℕ} → NextOf s mem from before r after → r ≡ Line k next → GoesOn mem from before after k next
-  goes-on (read _ n) e = goes-on-in n e
+  goes-on (read _ n) e = goes-on-in _ n e
   goes-on (refused _) e = never (cc)
 
 -- ---- the header
@@ -100,8 +122,3 @@ pub header-sizes : (s : List ℕ) {h : Header} {p : ℕ} → headerAt s ≡ got 
 header-sizes s {h} {p} e =
     let f = header-fits s h p e in
     (f .threads .0, f .threads .1, f .shared .0, f .shared .1, f .locals .0, f .locals .1, f .frames)
-
--- what comes next by that plan is what comes next of the file
-pub next-read : {s mem : List ℕ} {from : ℕ} {before : List ℕ} {h : Header} {n : ℕ} {plan : Plan} {r : Next} {after : List ℕ}
-    → headerAt s ≡ got h n → plan ≡ planIn (h .sizes) → NextIn plan mem from before r after → NextOf s mem from before r after
-next-read {mem} {from} {before} {r} {after} e is k = read e (subst (λ (x : Plan). NextIn x mem from before r after) is k)

@@ -11,10 +11,10 @@ use denote.Triple.Clauses.{AtExit}
 use borrow.Fn.Kinds.{Dens, endedOf}
 use Rattle.numbers.proofs.ReadingLaws.{never}
 use Rattle.model.proofs.Unique.{first-same}
-use Rattle.store.specs.declared.plan.Plan.{Plan}
+use Rattle.files.specs.Table.{Table}
+use Rattle.model.specs.Positions.{factAt}
 use Rattle.words.specs.Text.{Written}
 use Rattle.text.specs.Listing.{factLine}
-use Rattle.text.specs.Facts.{planFact}
 use Rattle.words.proofs.Unique.{written-unique}
 use Rattle.report.specs.declared.facts.Next.{Next}
 use Rattle.report.specs.declared.facts.Next.the-variants.{Line}
@@ -49,20 +49,19 @@ line-same : (text : ℕ → List ℕ) {p q k k′ : ℕ} {before after after′ 
     → Written (text p) before after k → Written (text q) before after′ k′ → Same (Line k (p + 1)) (Line k′ (q + 1)) after after′
 line-same text e w w′ = let (n, bytes) = written-unique (rw e at w) w′ in (λ i. Line (n i) (e i + 1), bytes)
 
-module _ {mem : List ℕ} {from : ℕ} {before : List ℕ} where
-  next-in-same : {s : Plan} {r r′ : Next} {after after′ : List ℕ}
-      → NextIn s mem from before r after → NextIn s mem from before r′ after′ → Same r r′ after after′
-  next-in-same {s} (line f w) (line f′ w′) = line-same (λ p. factLine (planFact s p)) (first-same f f′) w w′
-  next-in-same (line f w) (end none) = absurd (none _ (f .here))
-  next-in-same (end none) (line f w) = absurd (none _ (f .here))
-  next-in-same (end none) (end none′) = (refl, refl)
+next-in-same : (T : Table) {A : ℕ → Type 0} {from : ℕ} {before : List ℕ} {r r′ : Next} {after after′ : List ℕ}
+    → NextIn T A from before r after → NextIn T A from before r′ after′ → Same r r′ after after′
+next-in-same T (line f w) (line f′ w′) = line-same (λ p. factLine (factAt T p)) (first-same f f′) w w′
+next-in-same T (line f w) (end none) = absurd (none _ (f .here))
+next-in-same T (end none) (line f w) = absurd (none _ (f .here))
+next-in-same T (end none) (end none′) = (refl, refl)
 
-  pub next-of-same : {s : List ℕ} {r r′ : Next} {after after′ : List ℕ}
-      → NextOf s mem from before r after → NextOf s mem from before r′ after′ → Same r r′ after after′
-  next-of-same (read e n) (read e′ n′) = next-in-same n (rw (got-header (sym e′ ∙ e)) at n′)
-  next-of-same (read e n) (refused e′) = let q = sym e ∙ e′ in never (cc)
-  next-of-same (refused e) (read e′ n′) = let q = sym e ∙ e′ in never (cc)
-  next-of-same (refused e) (refused e′) = (refl, refl)
+pub next-of-same : {s mem : List ℕ} {from : ℕ} {before : List ℕ} {r r′ : Next} {after after′ : List ℕ}
+    → NextOf s mem from before r after → NextOf s mem from before r′ after′ → Same r r′ after after′
+next-of-same (read e n) (read e′ n′) = next-in-same _ n (rw (got-header (sym e′ ∙ e)) at n′)
+next-of-same (read e n) (refused e′) = let q = sym e ∙ e′ in never (cc)
+next-of-same (refused e) (read e′ n′) = let q = sym e ∙ e′ in never (cc)
+next-of-same (refused e) (refused e′) = (refl, refl)
 
 pub next-fact-fixes : (κs : Lfts 3) (a : Dens κs next-fact-kinds.ps) (x x′ : Next)
     (s s′ : AtExit (endedOf 3 next-fact-kinds.ps next-fact-kinds.r) κs)

@@ -1,7 +1,8 @@
 // The lines of an answer of the check: the first for any answer, the second for one that has a verdict.
 ghost use mathlib.Core.Path.{_≡_};
 ghost use Rattle.words.specs.Text.{Written};
-ghost use Rattle.report.specs.Answers.{threadsOf, firstLine, lineOfVerdict, verdictLine};
+ghost use Rattle.rules.specs.Answers.{replyOf};
+ghost use Rattle.report.specs.Answers.{threadsOf, lineOfReply, lineOfVerdict, verdictLine};
 use files::header::read_header;
 use rules::answer::Answer;
 use rules::answer::reply_of;
@@ -24,7 +25,7 @@ fn threads_of(table: &[u8]) -> usize
 
 // The first line of an answer: the number of facts, or the refusal. Gives its length.
 pub fn first_line(answer: Answer, out: &mut [u8; ROOM]) -> usize
-    ensures { λ r. ⌜ Written (firstLine answer) (now (out .entry)) (now (out .exit)) r ⌝ }
+    ensures { λ r. ⌜ Written (lineOfReply (replyOf answer)) (now (out .entry)) (now (out .exit)) r ⌝ }
 {
     let reply = reply_of(answer);
     let number = reply.number as usize;

@@ -1,11 +1,13 @@
 // The lines of the facts, one at a call, in position order.
-ghost use Rattle.store.specs.Plans.{Planned};
-ghost use Rattle.report.specs.Listed.{NextIn, NextOf};
+ghost use mathlib.Core.Path.{_≡_};
+ghost use Rattle.files.specs.Table.{Table};
+ghost use Rattle.store.specs.Plans.{Planned, planOf};
+ghost use Rattle.report.specs.Listed.{NextIn, MarkedIn, NextOf};
 use files::header::read_header;
 use reader::ends::End;
 use store::marks::next_mark;
 use store::plan::Plan;
-use store::plan::plan_of;
+use store::plan::plan_by;
 use text::lines::ROOM;
 use text::lines::fact_line;
 
@@ -15,10 +17,10 @@ pub enum Next {
     End,
 }
 
-// The next fact of a table with plan s.
+// The next fact of any table with plan s.
 fn next_in(s: Plan, mem: &[u8], from: usize, out: &mut [u8; ROOM]) -> Next
     requires { ⌜ Planned s ⌝ }
-    ensures { λ r. ⌜ NextIn s (now (mem .entry)) from (now (out .entry)) r (now (out .exit)) ⌝ }
+    ensures { λ r. ⌜ ((T : Table) → s ≡ planOf T → NextIn T (MarkedIn T (now (mem .entry))) from (now (out .entry)) r (now (out .exit))) ⌝ }
 {
     let w = s.w;
     if mem.len() < w {
@@ -43,14 +45,7 @@ pub fn next_fact(table: &[u8], mem: &[u8], from: usize, out: &mut [u8; ROOM]) ->
     let sizes = header.sizes;
     let end = read.end;
     match end {
-        End::Past { next: _ } => {
-            let threads = sizes.threads as usize;
-            let shared = sizes.shared as usize;
-            let locals = sizes.locals as usize;
-            let frames = sizes.frames as usize;
-            let s = plan_of(threads, shared, locals, frames);
-            next_in(s, mem, from, out)
-        }
+        End::Past { next: _ } => next_in(plan_by(sizes), mem, from, out),
         End::Refused { refusal: _ } => Next::End,
     }
 }

@@ -23,7 +23,7 @@ use Rattle.store.specs.declared.rows.RowCounts.{RowCounts}
 use Rattle.store.specs.Reading.{rowOf, stepOf, pushOf, popOf, Nth, Same, Reads}
 use Rattle.store.specs.Plans.{sized, planOf}
 use Rattle.engine.specs.Given.{RowsOf, StartOf}
-use Rattle.verdict.specs.Judged.{ErrorsOf}
+use Rattle.verdict.specs.ErrorRows.{ErrorsOf}
 use Rattle.rules.specs.Lent.{Laid, Stored}
 
 -- ---- members by their number

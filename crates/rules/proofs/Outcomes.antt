@@ -20,7 +20,7 @@ use Rattle.engine.specs.declared.run.Answer.{Answer}
 use Rattle.engine.specs.declared.run.Answer.the-variants as Ends
 use Rattle.engine.specs.Answers.{Ran}
 use Rattle.verdict.specs.declared.search.Verdict.{Verdict}
-use Rattle.verdict.specs.Judged.{Judged}
+use Rattle.verdict.specs.ErrorRows.{Judged}
 use Rattle.verdict.proofs.Answers.{judged-least}
 use Rattle.rules.specs.declared.answer.Answer.the-variants.{Done, Short, Over}
 use Rattle.rules.specs.Checking.{OfTable, short, over, done}

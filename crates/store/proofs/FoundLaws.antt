@@ -12,6 +12,7 @@ use lib.Bits.{bitOr, bitAnd}
 use lib.Dec.{eqb}
 use mir.Val.{boolByte}
 use Rattle.model.specs.Memory.{mark, Says, holds, fails}
+use Rattle.model.proofs.Memory.{says-cast}
 use Rattle.store.specs.Marking.{Among, SomeIn, LacksIn, Is}
 use Rattle.store.proofs.MarkLaws.{has-test}
 
@@ -41,10 +42,6 @@ says-and (holds x) (fails y) = fails (λ p. y (p .1))
 says-and (fails x) (holds y) = fails (λ p. x (p .0))
 says-and (fails x) (fails y) = fails (λ p. x (p .0))
 
-says-same : {A B : Type 0} {a : ℕ} → (A → B) → (B → A) → Says A a → Says B a
-says-same f g (holds x) = holds (f x)
-says-same f g (fails n) = fails (λ b. n (g b))
-
 -- what was gathered is not 0
 pub says-is : {A : Type 0} {a : ℕ} → Says A a → Is A (not (eqb a 0))
 says-is (holds x) = x
@@ -56,7 +53,7 @@ pub among-none : {A : ℕ → Type 0} → Says (Among A 0) 0
 among-none = fails (λ s. not-suc-le-zero (s .lt))
 
 among-next : {A : ℕ → Type 0} {j found here : ℕ} → Says (Among A j) found → Says (A j) here → Says (Among A (j + 1)) (bitOr found here)
-among-next {A} {j} s h = says-same to fro (says-or s h)
+among-next {A} {j} s h = says-cast to fro (says-or s h)
   where
     to : Among A j ⊎ A j → Among A (j + 1)
     to (inl a) = record { j = a .j; lt = omega (arith, a .lt); here = a .here }

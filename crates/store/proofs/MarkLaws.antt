@@ -16,6 +16,7 @@ use Rattle.files.specs.Table.{Table}
 use Rattle.model.specs.Rules.{Fact}
 use Rattle.model.specs.Positions.{Fits, pos}
 use Rattle.model.specs.Memory.{mark, Marked, total}
+use Rattle.model.proofs.Memory.{unmarked}
 use Rattle.store.specs.Marking.{room, Has, marked, Clear, Cleared, Is}
 
 -- ---- the answer of a test
@@ -101,12 +102,7 @@ module _ (m : List ℕ) where
   total-put y (suc w) r l b n = go (ℕ-discrete y w) (λ i. total-put y w r i (λ p h. b p (omega arith)) n)
     where
       none : mark m y ≡ 0
-      none = bit (mark m y) (b y l) n
-        where
-          bit : (x : ℕ) → x ≤ 1 → ¬ (x ≡ 1) → x ≡ 0
-          bit zero h k = refl
-          bit (suc zero) h k = absurd (k refl)
-          bit (suc (suc x)) h k = absurd (omega arith)
+      none = unmarked (mark m y) (b y l) n
 
       go : Dec (y ≡ w) → (y < w → total (marked m y) w ≡ suc (total m w)) → total (marked m y) (suc w) ≡ suc (total m (suc w))
       go (yes e) f =
@@ -117,10 +113,11 @@ module _ (m : List ℕ) where
 
 -- ---- a clear memory
 
--- one more byte cleared
-pub clear-next : (m : List ℕ) (i : ℕ) → i < length m → ((p : ℕ) → p < i → getD m p 0 ≡ 0) → (p : ℕ) → p < i + 1 → getD (set m i 0) p 0 ≡ 0
-clear-next m i l h =
-    below-more (λ p. getD (set m i 0) p 0 ≡ 0) i (λ p lt. getD-set-other m i p 0 0 (omega arith) ∙ h p lt) (getD-set-same m i 0 0 l)
+-- zeros are a clear memory
+pub zeros-clear : {m : List ℕ} (w : ℕ) → m ≡ replicate w 0 → Clear m
+zeros-clear w e p h =
+    let l : room (replicate w 0) ≡ w = length-replicate w 0 in
+    ap (λ (k : List ℕ). mark k p) e ∙ getD-replicate w p 0 0 (omega (arith, h, ap room e))
 
 module _ (m : List ℕ) (clear : Clear m) where
   pub clear-none : (p : ℕ) → p < room m → ¬ Has m p
@@ -140,18 +137,15 @@ pub clear-zeros : (m : List ℕ) → Clear m → m ≡ replicate (length m) 0
 clear-zeros m c =
     ext-getD 0 m (replicate (length m) 0) (sym (length-replicate (length m) 0)) λ p h. c p h ∙ sym (getD-replicate (length m) p 0 0 h)
 
--- a clear part before the bytes of a memory from w on
-pub first-cleared : (part m : List ℕ) (w : ℕ) → length part ≡ w → Clear part → Cleared w m (part ++ drop w m)
-first-cleared part m w e c =
-    record {
-      zeros = take-at part (drop w m) w e ∙ clear-zeros part c ∙ ap (λ (k : ℕ). replicate k 0) e;
-      rest = drop-at part (drop w m) w e;
-    }
+-- w zeros before the bytes of a memory from w on
+pub first-cleared : {part : List ℕ} (m : List ℕ) (w : ℕ) → part ≡ replicate w 0 → Cleared w m (part ++ drop w m)
+first-cleared {part} m w e =
+    let l : length part ≡ w = ap length e ∙ length-replicate w 0 in
+    record { zeros = take-at part (drop w m) w l ∙ e; rest = drop-at part (drop w m) w l }
 
 -- a memory whose marks are all among the first w, which are taken off, is clear
 pub cleared-clear : {w : ℕ} {m : List ℕ} (m′ : List ℕ) → room m′ ≤ w → Cleared w m m′ → Clear m′
-cleared-clear {w} m′ l c p h =
-    ap (λ (k : List ℕ). mark k p) (sym (take-all w m′ l) ∙ c .zeros) ∙ getD-replicate w p 0 0 (omega arith)
+cleared-clear {w} m′ l c = zeros-clear w (sym (take-all w m′ l) ∙ c .zeros)
 
 -- ---- the facts that a memory marks
 

@@ -6,13 +6,9 @@ use Prim.Native.Nat.{ℕ, zero, suc, _+_, _*_, _/_, _%_, _<_, _≤_}
 use native.Mathlib.Nat.{mul-le-mul, mod-lt, mul-le-mul-right, div-lt-iff-lt-mul}
 use native.Mathlib.Omega.{arith}
 use lib.Arith.{digits-lt}
+use Rattle.model.proofs.Positions.{right-pos}
 use Rattle.store.specs.declared.plan.Plan.{Plan}
 use Rattle.store.specs.Plans.{Planned, pair, pAt, pFrom, qFrom, gAt}
-
--- a product above something has no factor 0
-pub right-pos : (m c : ℕ) {q : ℕ} → q < m * c → 0 < c
-right-pos m zero h = omega arith
-right-pos m (suc c) h = omega arith
 
 module _ {s : Plan} (h : Planned s) where
   pub pair-lt : {g l : ℕ} → g < s .g → l < s .l → pair s g l < s .k

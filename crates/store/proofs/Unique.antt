@@ -1,6 +1,6 @@
 -- Two results that a contract allows are equal: for each public function, of its contract as the prover reads it from the source (`Post`), with
 -- every byte lent. Most contracts are equations for the answer or the memory. Those that are none come first: what a test answers, the next mark,
--- a memory that is clear, whose length a loan keeps, one whose first marks are taken off, and a list of rows, whose length is its type's.
+-- a memory whose first marks are taken off, and a list of rows, whose length is its type's.
 -- Assumes nothing.
 use mathlib.Core.Path.{_≡_, refl, sym, ap₂, _∙_}
 use mathlib.Core.Bool.{Bool, true, false}
@@ -17,7 +17,7 @@ use borrow.Fn.Kinds.{Dens, resT, endedOf}
 use Rattle.numbers.proofs.Unique.{same, Fixes}
 use Rattle.model.proofs.Unique.{first-same}
 use Rattle.store.specs.declared.rows.Row.{Row}
-use Rattle.store.specs.Marking.{Is, NextMark, here, nowhere, Clear, Cleared}
+use Rattle.store.specs.Marking.{Is, NextMark, here, nowhere, Cleared}
 use Rattle.store.specs.Reading.{zeroRow, nth, Listed}
 use Rattle.store.proofs.marks.has.Reads as has
 use Rattle.store.proofs.marks.has.Kinds as has-kinds
@@ -45,12 +45,12 @@ use Rattle.store.proofs.plan.p_from.Reads as p-from
 use Rattle.store.proofs.plan.p_from.Kinds as p-from-kinds
 use Rattle.store.proofs.plan.q_from.Reads as q-from
 use Rattle.store.proofs.plan.q_from.Kinds as q-from-kinds
-use Rattle.store.proofs.plan.p_fact.Reads as p-fact
-use Rattle.store.proofs.plan.p_fact.Kinds as p-fact-kinds
-use Rattle.store.proofs.plan.q_fact.Reads as q-fact
-use Rattle.store.proofs.plan.q_fact.Kinds as q-fact-kinds
-use Rattle.store.proofs.plan.g_at.Reads as g-at
-use Rattle.store.proofs.plan.g_at.Kinds as g-at-kinds
+use Rattle.store.proofs.plan.p_position.Reads as p-position
+use Rattle.store.proofs.plan.p_position.Kinds as p-position-kinds
+use Rattle.store.proofs.plan.q_position.Reads as q-position
+use Rattle.store.proofs.plan.q_position.Kinds as q-position-kinds
+use Rattle.store.proofs.plan.g_position.Reads as g-position
+use Rattle.store.proofs.plan.g_position.Kinds as g-position-kinds
 use Rattle.store.proofs.rows.cell.Reads as cell
 use Rattle.store.proofs.rows.cell.Kinds as cell-kinds
 use Rattle.store.proofs.rows.row_at.Reads as row-at
@@ -72,9 +72,6 @@ next-unique (here f) (here g) = first-same f g
 next-unique (here f) (nowhere n) = absurd (n _ (f .here))
 next-unique (nowhere n) (here g) = absurd (n _ (g .here))
 next-unique (nowhere n) (nowhere _) = refl
-
-pub clear-unique : {m m′ : List ℕ} → length m ≡ length m′ → Clear m → Clear m′ → m ≡ m′
-clear-unique {m} {m′} long z z′ = ext-getD 0 m m′ long (λ p l. same (z p l) (z′ p (omega arith)))
 
 -- a memory is one by its two parts
 pub parts-same : (w : ℕ) {m m′ : List ℕ} → take w m ≡ take w m′ → drop w m ≡ drop w m′ → m ≡ m′
@@ -123,14 +120,14 @@ p-from-fixes κs a x x′ s s′ = same
 pub q-from-fixes : Fixes q-from-kinds.ps q-from-kinds.r q-from.Post
 q-from-fixes κs a x x′ s s′ = same
 
-pub p-fact-fixes : Fixes p-fact-kinds.ps p-fact-kinds.r p-fact.Post
-p-fact-fixes κs a x x′ s s′ p q = same (p .0) (q .0)
+pub p-position-fixes : Fixes p-position-kinds.ps p-position-kinds.r p-position.Post
+p-position-fixes κs a x x′ s s′ p q = same (p .0) (q .0)
 
-pub q-fact-fixes : Fixes q-fact-kinds.ps q-fact-kinds.r q-fact.Post
-q-fact-fixes κs a x x′ s s′ p q = same (p .0) (q .0)
+pub q-position-fixes : Fixes q-position-kinds.ps q-position-kinds.r q-position.Post
+q-position-fixes κs a x x′ s s′ p q = same (p .0) (q .0)
 
-pub g-at-fixes : Fixes g-at-kinds.ps g-at-kinds.r g-at.Post
-g-at-fixes κs a x x′ s s′ = same
+pub g-position-fixes : Fixes g-position-kinds.ps g-position-kinds.r g-position.Post
+g-position-fixes κs a x x′ s s′ = same
 
 pub cell-fixes : Fixes cell-kinds.ps cell-kinds.r cell.Post
 cell-fixes κs a x x′ s s′ = same
@@ -144,7 +141,7 @@ pub step-rows-fixes : (κs : Lfts 1) (a : Dens κs step-rows-kinds.ps) (x x′ :
     → length x ≡ 1024 → length x′ ≡ 1024 → step-rows.Post κs a x s → step-rows.Post κs a x′ s′ → x ≡ x′
 step-rows-fixes κs a x x′ s s′ l l′ = listed-unique (same l l′)
 
--- ---- and every byte of the memory; a loan keeps its length
+-- ---- and every byte of the memory
 
 pub put-mark-fixes : (κs : Lfts 1) (a : Dens κs put-mark-kinds.ps) (x x′ : resT put-mark-kinds.r κs .Denot)
     (s s′ : AtExit (endedOf 1 put-mark-kinds.ps put-mark-kinds.r) κs)
@@ -153,9 +150,8 @@ put-mark-fixes κs a x x′ s s′ = same
 
 pub clear-fixes : (κs : Lfts 1) (a : Dens κs clear-kinds.ps) (x x′ : resT clear-kinds.r κs .Denot)
     (s s′ : AtExit (endedOf 1 clear-kinds.ps clear-kinds.r) κs)
-    → length (now (s .0)) ≡ length (now (a .0)) → length (now (s′ .0)) ≡ length (now (a .0))
     → clear.Post κs a x s → clear.Post κs a x′ s′ → now (s .0) ≡ now (s′ .0)
-clear-fixes κs a x x′ s s′ l l′ = clear-unique (same l l′)
+clear-fixes κs a x x′ s s′ = same
 
 pub clear-first-fixes : (κs : Lfts 1) (a : Dens κs clear-first-kinds.ps) (x x′ : resT clear-first-kinds.r κs .Denot)
     (s s′ : AtExit (endedOf 1 clear-first-kinds.ps clear-first-kinds.r) κs)

@@ -1,4 +1,4 @@
--- A mark in the lent memory. What stands above speaks of a memory by these definitions; only here they are tied to model's mark.
+-- Marks in the lent memory (01, "Working memory and claims"): what the tests answer and the changes leave, by model's mark.
 use mathlib.Core.Path.{_≡_}
 use mathlib.Core.Bool.{Bool, true, false}
 use mathlib.Core.List.{List}

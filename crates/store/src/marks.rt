@@ -1,7 +1,8 @@
 // The store: the only place that knows how a fact stands in memory. One byte a fact, 1 if it is marked.
 ghost use mathlib.Core.Path.{_≡_};
 ghost use Prim.Native.Nat.{_+_, _<_, _≤_};
-ghost use Rattle.store.specs.Marking.{room, Has, SomeIn, LacksIn, NextMark, marked, Clear, Cleared, Is};
+ghost use lib.ListN.{length, replicate};
+ghost use Rattle.store.specs.Marking.{room, Has, SomeIn, LacksIn, NextMark, marked, Cleared, Is};
 
 // Whether there is a mark at p.
 pub fn has(mem: &[u8], p: usize) -> bool
@@ -67,13 +68,9 @@ pub fn put_mark(mem: &mut [u8], p: usize)
 
 // Takes every mark off.
 pub fn clear(mem: &mut [u8])
-    ensures { λ _. ⌜ Clear (now (mem .exit)) ⌝ }
+    ensures { λ _. ⌜ now (mem .exit) ≡ replicate (length (now (mem .entry))) 0 ⌝ }
 {
-    let mut i: usize = 0;
-    while i < mem.len() {
-        mem[i] = 0;
-        i += 1;
-    }
+    lists::rows::wipe(mem);
 }
 
 // Takes the first w marks off, and leaves the others as they are.

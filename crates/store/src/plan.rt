@@ -87,7 +87,7 @@ pub fn q_from(s: Plan, t: usize, a: usize) -> usize
 }
 
 // Where the P fact of t from pair a to pair c stands.
-pub fn p_fact(s: Plan, t: usize, a: usize, c: usize) -> usize
+pub fn p_position(s: Plan, t: usize, a: usize, c: usize) -> usize
     requires { ⌜ Planned s × (t < s .n) × (a < s .k) × (c < s .k) ⌝ }
     ensures { λ r. ⌜ (r ≡ pFrom s t a + c) × (r < s .w) ⌝ }
 {
@@ -95,7 +95,7 @@ pub fn p_fact(s: Plan, t: usize, a: usize, c: usize) -> usize
 }
 
 // Where the Q fact of t from pair a with frame f to pair c stands.
-pub fn q_fact(s: Plan, t: usize, a: usize, f: usize, c: usize) -> usize
+pub fn q_position(s: Plan, t: usize, a: usize, f: usize, c: usize) -> usize
     requires { ⌜ Planned s × (t < s .n) × (a < s .k) × (f < s .f) × (c < s .k) ⌝ }
     ensures { λ r. ⌜ (r ≡ qFrom s t a + f * s .k + c) × (r < s .w) ⌝ }
 {
@@ -103,7 +103,7 @@ pub fn q_fact(s: Plan, t: usize, a: usize, f: usize, c: usize) -> usize
 }
 
 // Where the G fact of t from g to g2 stands.
-pub fn g_at(s: Plan, t: usize, g: usize, g2: usize) -> usize
+pub fn g_position(s: Plan, t: usize, g: usize, g2: usize) -> usize
     requires { ⌜ Planned s × (t < s .n) × (g < s .g) × (g2 < s .g) ⌝ }
     ensures { λ r. ⌜ r ≡ gAt s t g g2 ⌝ }
 {

@@ -7,6 +7,7 @@ use native.Mathlib.Decide.{decLe}
 use native.Mathlib.Omega.{arith}
 use lib.ListN.{length, take, getD}
 use lib.Seq.{take-all}
+use Rattle.files.proofs.TableLaws.{four-numbers}
 use Rattle.words.specs.Text.{Written}
 use Rattle.model.specs.Rules.{Fact, G, P, Q}
 use Rattle.text.specs.declared.facts.FactFields.{FactFields}
@@ -33,14 +34,6 @@ fact-written f e found w = rw (fact-of-fields f, sym e, found) w
 
 -- ---- the numbers of a possible error
 
-four : (ls : List ℕ) → length ls ≡ 4 → getD ls 0 0 ∷ getD ls 1 0 ∷ getD ls 2 0 ∷ getD ls 3 0 ∷ [] ≡ ls
-four [] e = absurd (omega arith)
-four (a ∷ []) e = absurd (omega arith)
-four (a ∷ b ∷ []) e = absurd (omega arith)
-four (a ∷ b ∷ c ∷ []) e = absurd (omega arith)
-four (a ∷ b ∷ c ∷ d ∷ []) e = refl
-four (a ∷ b ∷ c ∷ d ∷ x ∷ ls) e = absurd (omega arith)
-
 -- more than all of a list is all of it
 take-least : (n : ℕ) (ls : List ℕ) → take (min n (length ls)) ls ≡ take n ls
 take-least n ls = go (decLe n (length ls))
@@ -53,4 +46,4 @@ pub row-g-locals : (row g n : ℕ) (ls : List ℕ) → length ls ≡ 4
     → take (2 + min n 4) (row ∷ g ∷ getD ls 0 0 ∷ getD ls 1 0 ∷ getD ls 2 0 ∷ getD ls 3 0 ∷ []) ≡ row ∷ g ∷ take n ls
 row-g-locals row g n ls e =
     let two : 2 + min n 4 ≡ suc (suc (min n (length ls))) = omega arith in
-    rw (two, four ls e, take-least)
+    rw (two, four-numbers ls e, take-least)

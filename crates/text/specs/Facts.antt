@@ -1,4 +1,4 @@
--- The fact at a position, by the plan of a table.
+-- The fact at a position, by the plan of a table (document 01, "Working memory and claims"). Only contracts of functions that ask for a plan cite it.
 use mathlib.Core.List.{[]}
 use Prim.Native.Nat.{ℕ}
 use Rattle.files.specs.Table.{Table}

@@ -38,20 +38,20 @@ checkVerdict (check.Refused refusal) = noVerdict
 checkVerdict (check.Short room) = noVerdict
 checkVerdict (check.Over budget) = noVerdict
 
+-- what a written claim gives by its verdict and its number of bytes, and what stands in its place where none is written
+abbrev pub whereWritten : {A : Type 0} → (Verdict → ℕ → A) → A → WriteAnswer → A
+whereWritten given none (write.Written count verdict bytes) = given verdict bytes
+whereWritten given none (write.Refused refusal) = none
+whereWritten given none (write.Short room) = none
+whereWritten given none (write.Over budget) = none
+whereWritten given none (write.NoSpace needed) = none
+
 abbrev pub writeVerdict : WriteAnswer → VerdictNumbers
-writeVerdict (write.Written count verdict bytes) = ofVerdict verdict
-writeVerdict (write.Refused refusal) = noVerdict
-writeVerdict (write.Short room) = noVerdict
-writeVerdict (write.Over budget) = noVerdict
-writeVerdict (write.NoSpace needed) = noVerdict
+writeVerdict = whereWritten (λ verdict bytes. ofVerdict verdict) noVerdict
 
 -- "On 0 every call that writes a file, claim or text also gives the number of bytes written."
 abbrev pub writeBytes : WriteAnswer → ℕ
-writeBytes (write.Written count verdict bytes) = bytes
-writeBytes (write.Refused refusal) = 0
-writeBytes (write.Short room) = 0
-writeBytes (write.Over budget) = 0
-writeBytes (write.NoSpace needed) = 0
+writeBytes = whereWritten (λ verdict bytes. bytes) 0
 
 -- ---- the answers
 

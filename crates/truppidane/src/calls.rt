@@ -32,7 +32,8 @@ pub extern "C" fn truppidane_write_claim(
     space: &mut [u8],
     told: &mut [usize; NUMBERS],
 ) -> usize
-    ensures { λ r. ⌜ WriteTold (now (table .entry)) budget (now (mem .entry)) (now (space .entry)) r (now (mem .exit)) (now (space .exit)) (now (told .exit)) ⌝ }
+    ensures { λ r. ⌜ WriteTold (now (table .entry)) budget (now (mem .entry)) (now (space .entry)) r
+        (now (mem .exit)) (now (space .exit)) (now (told .exit)) ⌝ }
 {
     let numbers = write_numbers(write_claim(table, mem, budget, space));
     *told = numbers;

@@ -8,9 +8,9 @@ ghost use Rattle.uses.specs.RuleUses.{PushUse, PopUse, uMost, vMost, Kin
 use crate::lines::Pass;
 use crate::lines::one;
 use store::plan::Plan;
-use store::plan::p_fact;
+use store::plan::p_position;
 use store::plan::pair_of;
-use store::plan::q_fact;
+use store::plan::q_position;
 use store::rows::Row;
 use store::rows::row_at;
 
@@ -30,9 +30,9 @@ pub fn push(s: Plan, t: usize, a: usize, r: Row, mem: &mut [u8], put: bool, pass
     let u = r.u as usize;
     let v = r.v as usize;
     let d = pair_of(s, g, u);
-    let x = p_fact(s, t, a, pair_of(s, g, l));
-    let y = q_fact(s, t, a, v, d);
-    let z = p_fact(s, t, d, d);
+    let x = p_position(s, t, a, pair_of(s, g, l));
+    let y = q_position(s, t, a, v, d);
+    let z = p_position(s, t, d, d);
     let pushed = one(mem, put, pass, x, y);
     one(mem, put, pushed, x, z)
 }
@@ -46,8 +46,8 @@ pub fn pop(s: Plan, t: usize, a: usize, r: Row, mem: &mut [u8], put: bool, pass:
     let l = r.l as usize;
     let u = r.u as usize;
     let v = r.v as usize;
-    let x = q_fact(s, t, a, u, pair_of(s, g, l));
-    let y = p_fact(s, t, a, pair_of(s, g, v));
+    let x = q_position(s, t, a, u, pair_of(s, g, l));
+    let y = p_position(s, t, a, pair_of(s, g, v));
     one(mem, put, pass, x, y)
 }
 

@@ -10,8 +10,8 @@ ghost use Rattle.uses.specs.RuleUses.{StepUse, StepRowUse, StepUses};
 use crate::lines::Pass;
 use crate::lines::one;
 use store::plan::Plan;
-use store::plan::g_at;
-use store::plan::p_fact;
+use store::plan::g_position;
+use store::plan::p_position;
 use store::plan::pair_of;
 use store::rows::Row;
 
@@ -24,9 +24,9 @@ pub fn step(s: Plan, t: usize, a: usize, r: Row, mem: &mut [u8], put: bool, pass
     let l = r.l as usize;
     let u = r.u as usize;
     let v = r.v as usize;
-    let x = p_fact(s, t, a, pair_of(s, g, l));
-    let y = p_fact(s, t, a, pair_of(s, u, v));
-    let z = g_at(s, t, g, u);
+    let x = p_position(s, t, a, pair_of(s, g, l));
+    let y = p_position(s, t, a, pair_of(s, u, v));
+    let z = g_position(s, t, g, u);
     let stepped = one(mem, put, pass, x, y);
     one(mem, put, stepped, x, z)
 }

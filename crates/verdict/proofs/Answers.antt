@@ -27,7 +27,8 @@ use Rattle.model.proofs.Unique.{verdict-same}
 use Rattle.model.proofs.Claims.{witness-row}
 use Rattle.verdict.specs.declared.search.Verdict.{Verdict}
 use Rattle.verdict.specs.declared.search.Verdict.the-variants.{Safe, Possible}
-use Rattle.verdict.specs.Judged.{shown, Padded, Answers, Judged}
+use Rattle.verdict.specs.Judged.{shown, Padded, Answers}
+use Rattle.verdict.specs.ErrorRows.{Judged}
 use Rattle.verdict.proofs.search.judge.Reads as judge
 use Rattle.verdict.proofs.search.judge.Kinds as judge-kinds
 

@@ -12,7 +12,7 @@ use lib.Dec.{eqb}
 use borrow.Author.Tests.{eqb-true, eqb-false}
 use Rattle.model.specs.Errors.{Cell}
 use Rattle.store.specs.Marking.{Is}
-use Rattle.verdict.specs.Judged.{rowCell}
+use Rattle.verdict.specs.ErrorRows.{rowCell}
 use Rattle.verdict.specs.Search.{cellAt}
 
 pub cell-eq : {c d l : ℕ} → c ≡ d → Cell d l → Cell c l

@@ -39,11 +39,6 @@ pub ≼-where-agree : (xs ys : List ℕ) → length xs ≡ length ys
 -- ---- what stands at a number
 
 module _ {A : Type 0} where
-  pub some-lt : (xs : List A) (i : ℕ) {a : A} → getElem? xs i ≡ some a → i < length xs
-  some-lt [] i e = let z : _≡_ {A = ℕ} 0 1 = cc in absurd (omega arith)
-  some-lt (x ∷ xs) zero e = omega arith
-  some-lt (x ∷ xs) (suc i) e = omega (arith, some-lt xs i e)
-
   pub some-getD : (xs : List A) (i : ℕ) (d : A) {a : A} → getElem? xs i ≡ some a → getD xs i d ≡ a
   some-getD [] i d e = let z : _≡_ {A = ℕ} 0 1 = cc in absurd (omega arith)
   some-getD (x ∷ xs) zero d e = cc
@@ -58,12 +53,3 @@ pub getD-zeros : (n i : ℕ) → _≡_ {A = ℕ} (getD (replicate n 0) i 0) 0
 getD-zeros zero i = refl
 getD-zeros (suc n) zero = refl
 getD-zeros (suc n) (suc i) = getD-zeros n i
-
--- a list of four is its numbers
-pub four-numbers : (xs : List ℕ) → length xs ≡ 4 → getD xs 0 0 ∷ getD xs 1 0 ∷ getD xs 2 0 ∷ getD xs 3 0 ∷ [] ≡ xs
-four-numbers [] e = absurd (omega arith)
-four-numbers (a ∷ []) e = absurd (omega arith)
-four-numbers (a ∷ b ∷ []) e = absurd (omega arith)
-four-numbers (a ∷ b ∷ c ∷ []) e = absurd (omega arith)
-four-numbers (a ∷ b ∷ c ∷ d ∷ []) e = refl
-four-numbers (a ∷ b ∷ c ∷ d ∷ x ∷ xs) e = absurd (omega arith)

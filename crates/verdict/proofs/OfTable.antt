@@ -17,9 +17,10 @@ use Rattle.store.specs.declared.plan.Plan.{Plan}
 use Rattle.store.specs.Plans.{Planned, planOf}
 use Rattle.store.proofs.MarkLaws.{marked-has, has-marked}
 use Rattle.store.proofs.PlanIsModel.{planned, pos-p, pos-p-to, pair-fits}
-use Rattle.verdict.specs.Judged.{rowCell, ErrorsOf}
+use Rattle.model.proofs.Lists.{some-lt}
+use Rattle.verdict.specs.ErrorRows.{rowCell, ErrorsOf}
 use Rattle.verdict.specs.Search.{Reached}
-use Rattle.verdict.proofs.Lists.{some-lt, some-getD, getD-some}
+use Rattle.verdict.proofs.Lists.{some-getD, getD-some}
 use Rattle.verdict.proofs.CellLaws.{cell-eq}
 
 -- ---- what is lent is in range

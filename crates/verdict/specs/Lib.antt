@@ -1,5 +1,9 @@
--- The crate's definitions:
---   Judged  what the public contract cites: that the lent bytes are a table's, and that an answer is the verdict
---   Search  what only the private functions cite
+-- The crate's definitions. What the contracts of the calls cite:
+--   Judged     that an answer is the verdict on a set of facts
+-- the contract of the search besides:
+--   ErrorRows  that the lent bytes are a table's error rows, and the verdict on the facts that a memory marks
+-- and the private functions alone:
+--   Search     the local stores that threads reach, and the cells that a row asks of them
 pub mod Judged
+pub mod ErrorRows
 pub mod Search

@@ -10,7 +10,7 @@ use Rattle.model.specs.Claims.{First}
 use Rattle.store.specs.declared.plan.Plan.{Plan}
 use Rattle.store.specs.Plans.{pair, pAt}
 use Rattle.store.specs.Marking.{Has}
-use Rattle.verdict.specs.Judged.{rowCell}
+use Rattle.verdict.specs.ErrorRows.{rowCell}
 
 -- at g thread t reaches l ("some P of t ends there"): the P fact from some pair j to g, l is marked
 pub record Reached (s : Plan) (m : List ℕ) (g t l : ℕ) : Type 0 where

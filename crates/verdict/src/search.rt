@@ -5,7 +5,7 @@ ghost use Prim.Native.Nat.{_*_, _≤_};
 ghost use lib.ListN.{length, getD};
 ghost use Rattle.files.specs.Table.{Table};
 ghost use Rattle.store.specs.Marking.{room};
-ghost use Rattle.verdict.specs.Judged.{ErrorsOf, Judged};
+ghost use Rattle.verdict.specs.ErrorRows.{ErrorsOf, Judged};
 use crate::cells::aim;
 use crate::cells::cell_of;
 use crate::reach::least;

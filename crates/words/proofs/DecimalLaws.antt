@@ -9,7 +9,7 @@ use native.Mathlib.Omega.{arith}
 use borrow.Author.Tests.{lt-ltb, le-ltb}
 use lib.ListN.{length, length-append}
 use Rattle.words.specs.Text.{digit, digits, decimal, field}
-use Rattle.words.specs.Putting.{fieldRoom}
+use Rattle.words.specs.Room.{fieldRoom}
 
 module _ (v : ℕ) where
   digits-one : (most : ℕ) → v < 10 → digits (suc most) v ≡ digit v ∷ []

@@ -7,8 +7,10 @@ use native.Mathlib.Omega.{arith}
 use lib.ListN.{length, take, getD}
 use lib.Seq.{take-all}
 use Rattle.words.specs.Text.{lineFeed, field, fields, line, Written}
-use Rattle.words.specs.Putting.{Put, fieldRoom}
-use Rattle.words.proofs.PutLaws.{put-none, put-then, written, take-more}
+use Rattle.numbers.specs.Putting.{Put}
+use Rattle.words.specs.Room.{fieldRoom}
+use Rattle.numbers.proofs.PutLaws.{put-then}
+use Rattle.words.proofs.PutLaws.{put-none, written, take-more}
 
 fields-snoc : (vs : List ℕ) (v : ℕ) → fields (vs ++ (v ∷ [])) ≡ fields vs ++ field v
 unfolding fields

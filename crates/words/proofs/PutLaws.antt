@@ -1,34 +1,24 @@
--- A text that is put, and then another at the place past it, are their join that is put. So the writers go from left to right, and each
--- adds its own part: a byte, a word, a number.
+-- A text that is put, and then another at the place past it, are their join that is put (`put-then` of numbers). So the writers go from left to
+-- right, and each adds its own part: a byte, a word, a number.
 -- Assumes nothing.
-use mathlib.Core.Path.{_≡_, refl, sym, ap, _∙_}
+use mathlib.Core.Path.{_≡_, refl, sym}
 use mathlib.Core.List.{List, [], _∷_, _++_}
-use Prim.Native.Nat.{ℕ, suc, _+_, _/_, _%_, _≤_, _<_}
+use Prim.Native.Nat.{ℕ, _+_, _/_, _%_, _≤_, _<_}
 use native.Mathlib.Nat.{add-zero}
 use native.Mathlib.Numerals.{add-one}
 use native.Mathlib.Omega.{arith}
-use lib.ListN.{length, take, getD, set, length-append}
-use lib.Seq.{sets, length-take-le, take-suc, take-all}
+use lib.ListN.{length, take, getD, set}
+use lib.Seq.{length-take-le, take-suc, take-all}
 use Rattle.words.specs.Text.{digit, decimal, Written}
-use Rattle.words.specs.Putting.{Put}
+use Rattle.numbers.specs.Putting.{Put}
+use Rattle.numbers.proofs.PutLaws.{put-then}
 use Rattle.words.proofs.DecimalLaws.{decimal-one, decimal-more}
-
-sets-append : (xs ys d : List ℕ) (at : ℕ) → sets d at (xs ++ ys) ≡ sets (sets d at xs) (at + length xs) ys
-sets-append [] ys d at = rw add-zero
-sets-append (x ∷ xs) ys d at = sets-append xs ys (set d at x) (suc at) ∙ ap (λ i. sets (sets (set d at x) (suc at) xs) i ys) (omega arith)
 
 pub put-none : (at : ℕ) (d : List ℕ) → Put [] at d d at
 put-none at d = record { bytes = refl; next = sym (add-zero at) }
 
 pub put-byte : (b at : ℕ) (d : List ℕ) → Put (b ∷ []) at d (set d at b) (at + 1)
 put-byte b at d = record { bytes = refl; next = refl }
-
-pub put-then : {xs ys d d′ d″ : List ℕ} {at m r : ℕ} → Put xs at d d′ m → Put ys m d′ d″ r → Put (xs ++ ys) at d d″ r
-put-then {xs} {ys} {d} {at} p q =
-    record {
-      bytes = q .bytes ∙ cc (p .bytes, p .next, sets-append xs ys d at);
-      next = omega (arith, p .next, q .next, length-append xs ys);
-    }
 
 -- a text at the start of the buffer
 pub written : {text d d′ : List ℕ} {r : ℕ} → Put text 0 d d′ r → r ≤ length d′ → Written text d d′ r

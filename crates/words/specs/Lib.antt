@@ -1,6 +1,7 @@
--- Text as bytes (document 01, "Reference tables and results"). The public contract cites
---   Text     words, numbers in decimal, lines; what writing a text leaves in a buffer
--- and the private ones besides
---   Putting  what putting a text at a place leaves in a buffer
+-- Text as bytes (document 01, "Reference tables and results"). The contracts of the lines cite
+--   Text  words, numbers in decimal, lines; what writing a text leaves in a buffer
+-- and that of `put_line`, which asks for room, besides
+--   Room  the room that a field takes
+-- What the private functions leave in a buffer is numbers' `Put`.
 pub mod Text
-pub mod Putting
+pub mod Room

@@ -2,7 +2,7 @@
 ghost use mathlib.Core.List.{[], _∷_};
 ghost use Prim.Native.Nat.{_<_, _≤_};
 ghost use lib.ListN.{length};
-ghost use Rattle.words.specs.Putting.{Put};
+ghost use Rattle.numbers.specs.Putting.{Put};
 
 // Puts a byte at `at`, and gives the place past it.
 pub fn put_byte(out: &mut [u8], at: usize, b: u8) -> usize

@@ -2,7 +2,7 @@
 ghost use Prim.Native.Nat.{_+_, _≤_};
 ghost use lib.ListN.{length};
 ghost use Rattle.words.specs.Text.{decimal};
-ghost use Rattle.words.specs.Putting.{Put};
+ghost use Rattle.numbers.specs.Putting.{Put};
 use crate::bytes::put_byte;
 
 // Puts the digits of v from `at` on, and gives the place past them.

@@ -2,7 +2,8 @@
 ghost use Prim.Native.Nat.{_+_, _*_, _≤_};
 ghost use lib.ListN.{length};
 ghost use Rattle.words.specs.Text.{field, line, Written};
-ghost use Rattle.words.specs.Putting.{Put, fieldRoom};
+ghost use Rattle.numbers.specs.Putting.{Put};
+ghost use Rattle.words.specs.Room.{fieldRoom};
 use crate::bytes::put_byte;
 use crate::bytes::put_word;
 use crate::decimal::put_decimal;

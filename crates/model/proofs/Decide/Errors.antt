@@ -16,7 +16,7 @@ use Rattle.model.specs.Rules.{Fact, G, P, Q}
 use Rattle.model.specs.Errors.{Cell, Matches, Erroneous, failed, matched, Reaches, Witness, Allows, Safe}
 use Rattle.model.specs.Verdict.{_≼_, end, less, more, numbers, SmallestWitness, Verdict, safe, possible}
 use Rattle.model.specs.Claims.{AllowsRow}
-use Rattle.model.proofs.Lists.{mem-first, from-one, from-flatMap, to-flatMap, only, from-only, to-only}
+use Rattle.model.proofs.Lists.{some-lt, mem-first, from-one, from-flatMap, to-flatMap, only, from-only, to-only}
 use Rattle.model.proofs.Order.{≼-refl, ≼-antisym, witness-by-numbers}
 use Rattle.model.proofs.Decide.{each?, some?, member?, upTo, lt-upTo, all?, any?, Listed}
 
@@ -56,11 +56,6 @@ module _ (T : Table) (g : ℕ) (ls : List ℕ) where
   unfolding any? rowOf? ℕ-discrete
   erroneous? zero = map-dec (λ (t, h, e). failed t h e) from-failed (any? (λ t. ℕ-discrete (T .failed) (suc (getD ls t 0))) (T .n))
   erroneous? (suc i) = rowOf? i (getElem? (T .errors) i) refl
-
-some-lt : {A : Type 0} (xs : List A) (i : ℕ) {a : A} → getElem? xs i ≡ some a → i < length xs
-some-lt [] i e = let z : _≡_ {A = ℕ} 0 1 = cc in absurd (omega arith)
-some-lt (x ∷ xs) zero e = omega arith
-some-lt (x ∷ xs) (suc i) e = omega (arith, some-lt xs i e)
 
 row-lt : (T : Table) {g row : ℕ} {ls : List ℕ} → Erroneous T g ls row → row < suc (length (T .errors))
 row-lt T (failed t h e) = omega arith

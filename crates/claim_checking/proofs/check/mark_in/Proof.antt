@@ -4,7 +4,8 @@ use mathlib.Core.Path.{_≡_, sym, subst, _∙_}
 use borrow.Author.Needs.{needs}
 use lib.ListN.{length, take, drop}
 use lib.Seq.{length-take-le, take-at, drop-at}
-use Rattle.claim_files.specs.ClaimFile.{claimAt, positionsOf}
+use Rattle.claim_files.specs.ClaimFile.{claimAt}
+use Rattle.claim_files.specs.ClaimAnswers.{positionsOf}
 use Rattle.claim_files.specs.Marks.{Marks}
 use Rattle.claim_checking.proofs.check.mark_in.Statement.{statement}
 use Rattle.claim_checking.proofs.check.mark_in.Tie as tie

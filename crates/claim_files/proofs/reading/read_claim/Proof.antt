@@ -3,7 +3,7 @@
 use borrow.Author.Needs.{needs}
 use mathlib.Core.Path.{sym, ap, _∙_}
 use Rattle.numbers.proofs.ReadingLaws.{read-got, read-bad}
-use Rattle.claim_files.specs.ClaimFile.{claimedOf}
+use Rattle.claim_files.specs.ClaimAnswers.{claimedOf}
 use Rattle.claim_files.proofs.ClaimLaws.{claim-counted, claim-uncounted}
 use Rattle.claim_files.proofs.reading.read_claim.Statement.{statement}
 use Rattle.claim_files.proofs.reading.read_claim.Tie as tie

@@ -22,7 +22,7 @@ returns c =
     let a = called .before .before .before .args in
     let wrote = put-room (a .space .now) (a .at) (a .value) (omega arith) (omega arith) in
     let e = called .put-number .ensures in
-    record { same = e .1 ∙ sym (wrote .1); next = e .0 ∙ sym (wrote .0) }
+    record { bytes = e .1 ∙ sym (wrote .1); next = e .0 ∙ sym (wrote .0) }
 
 pub put-spec : {M : Type 1} → statement M
 put-spec = tie.close (tie.spec cast-put-number put-number-requires same-length returns)

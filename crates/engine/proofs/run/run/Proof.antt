@@ -3,9 +3,11 @@
 use mathlib.Core.Path.{_≡_, ap, _∙_}
 use mathlib.Core.List.{List}
 use Prim.Native.Nat.{ℕ}
+use lib.ListN.{length}
 use native.Mathlib.Omega.{arith}
 use borrow.Author.Needs.{needs}
-use Rattle.store.specs.Marking.{room}
+use Rattle.store.specs.Marking.{room, Clear}
+use Rattle.store.proofs.MarkLaws.{zeros-clear}
 use Rattle.uses.proofs.PassLaws.{puts-le}
 use Rattle.engine.specs.InRange.{Given}
 use Rattle.engine.proofs.GivenLaws.{rows-given, start-given}
@@ -28,6 +30,9 @@ module _ (c : tie.After-start) where
   long : room Z ≡ entry .args .s .w
   long = cleared .clear .kept .0 ∙ entry .pre .1
 
+  clear : Clear Z
+  clear = zeros-clear (length (entry .args .mem .now)) (cleared .clear .ensures)
+
 -- what is given is in range
 given : (c : tie.Start) → Given (c .args .s) (c .args .counts) (c .args .steps .now) (c .args .pushes .now) (c .args .pops .now)
 given c = rows-given (c .pre .0 .1)
@@ -38,8 +43,11 @@ clear-requires c κs = search needs
 start-requires : tie.Need-start-requires
 start-requires c κs =
     let at = c .before .before .before in
-    let first = at .before .before .before .before .before .before .before in
-    (given first .plan, start-given (first .pre .0 .1 .sound) (first .pre .0 .1 .plan) (first .pre .0 .2), omega (arith, at .clear .kept .0, first .pre .1))
+    let first = at .before .before .before .before .before .before .before in (
+      given first .plan,
+      start-given (first .pre .0 .1 .sound) (first .pre .0 .1 .plan) (first .pre .0 .2),
+      omega (arith, at .clear .kept .0, first .pre .1),
+    )
 
 sub-started : tie.Need-sub-started
 sub-started c = let at = c .before .before .before in omega (arith, given (entry at) .plan .n-pos)
@@ -57,8 +65,8 @@ returns c =
     let test = last .before .before in
     let at = test .before .before .before .before in
     let n = given (entry at) .plan .n-pos in (
-      last .clear2 .ensures,
-      over-at-start rows first (Z at) (long at) (cleared at .clear .ensures) (at .start .ensures) (omega (arith, test .if1 .taken)),
+      zeros-clear (length (at .start .last .1 .1 .1 .0)) (last .clear2 .ensures),
+      over-at-start rows first (Z at) (long at) (clear at) (at .start .ensures) (omega (arith, test .if1 .taken)),
     )
 
 sub-left : tie.Need-sub-left
@@ -87,8 +95,8 @@ returns-2 c =
     let within = work .before .before in
     let at = within .before .before .before .before in
     let n = given (entry at) .plan .n-pos in (
-      last .clear3 .ensures,
-      over-when-spent rows first (Z at) (long at) (cleared at .clear .ensures) (at .start .ensures) (worked-settled (work .work .ensures))
+      zeros-clear (length (work .work .last .1 .1 .1 .1 .1 .0)) (last .clear3 .ensures),
+      over-when-spent rows first (Z at) (long at) (clear at) (at .start .ensures) (worked-settled (work .work .ensures))
           (omega (arith, within .if1 .left)) (test .if2 .taken),
     )
 
@@ -110,7 +118,7 @@ returns-3 c =
     let n = given (entry at) .plan .n-pos in
     let less = puts-le (worked-settled (work .work .ensures) .puts) in
     let some = c .before .if2 .left in
-    done-when-settled rows first (Z at) (long at) (cleared at .clear .ensures) (at .start .ensures) (worked-settled (work .work .ensures))
+    done-when-settled rows first (Z at) (long at) (clear at) (at .start .ensures) (worked-settled (work .work .ensures))
     (omega (arith, within .if1 .left)) (omega arith) (omega arith)
 
 pub run-spec : {M : Type 1} → statement M

@@ -11,7 +11,7 @@ use Rattle.files.specs.Table.{Table}
 use Rattle.model.specs.Rules.{Starts, ClosedWithStarts}
 use Rattle.model.specs.Memory.{Marked}
 use Rattle.store.specs.Plans.{planOf}
-use Rattle.verdict.specs.Judged.{Judged}
+use Rattle.verdict.specs.ErrorRows.{Judged}
 use Rattle.rules.specs.Lent.{Stored}
 use Rattle.rules.proofs.LentRows.{stored-rows, stored-begins, stored-errors}
 use Rattle.rules.proofs.LentRows.{stored-plan, stored-sizes, stored-errors-long}

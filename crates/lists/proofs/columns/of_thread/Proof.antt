@@ -1,12 +1,12 @@
+-- `lists::columns::of_thread` meets its contract: its test is the one of `ofThread`.
+-- Assumes nothing.
 use borrow.Author.Tests.{lt-ltb, le-ltb}
 use Rattle.lists.proofs.columns.of_thread.Statement.{statement}
 use Rattle.lists.proofs.columns.of_thread.Tie as tie
 
--- src/columns.rt:31:9
 returns : tie.Need-returns
 returns c = simp (lt-ltb _ _ (c .if1 .taken))
 
--- src/columns.rt:27:1
 returns-2 : tie.Need-returns-2
 returns-2 c = simp (le-ltb _ _ (c .if1 .left))
 

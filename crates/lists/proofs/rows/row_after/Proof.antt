@@ -1,4 +1,4 @@
--- `lists::rows::row_after` meets its contract.
+-- `lists::rows::row_after` meets its contract: after a part that was read it is the row at the place past it, and else the part's refusal.
 -- Assumes nothing.
 use borrow.Author.Needs.{needs}
 use Rattle.lists.proofs.rows.row_after.Statement.{statement}

@@ -24,7 +24,8 @@ enum-told-3 : tie.Need-enum-told-3
 enum-told-3 c = search needs
 
 returns : tie.Need-returns
-returns c = let e = c .before .before .before .before .answer .given .1 in rw (e, sym (c .before .before .threads-of .ensures)) (c .line-of-verdict .ensures)
+returns c =
+    rw (c .before .before .before .before .answer .given .1, sym (c .before .before .threads-of .ensures)) (c .line-of-verdict .ensures)
 
 returns-2 : tie.Need-returns-2
 returns-2 c = search needs

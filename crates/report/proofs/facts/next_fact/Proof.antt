@@ -5,8 +5,8 @@ use borrow.Author.Needs.{needs}
 use denote.Ref.{now}
 use Rattle.numbers.specs.Reading.{got}
 use Rattle.files.specs.Header.{headerAt}
-use Rattle.report.specs.Listed.{refused}
-use Rattle.report.proofs.ListedLaws.{was-read, was-refused, header-sizes, next-read}
+use Rattle.report.specs.Listed.{read, refused}
+use Rattle.report.proofs.ListedLaws.{was-read, was-refused, header-sizes}
 use Rattle.report.proofs.facts.next_fact.Statement.{statement}
 use Rattle.report.proofs.facts.next_fact.Tie as tie
 
@@ -21,20 +21,8 @@ read-header-requires c κs = search needs
 enum-told : tie.Need-enum-told
 enum-told c = search needs
 
-cast-threads : tie.Need-cast-threads
-cast-threads c = search needs
-
-cast-shared : tie.Need-cast-shared
-cast-shared c = search needs
-
-cast-locals : tie.Need-cast-locals
-cast-locals c = search needs
-
-cast-frames : tie.Need-cast-frames
-cast-frames c = search needs
-
-plan-of-requires : tie.Need-plan-of-requires
-plan-of-requires c κs = header-sizes _ (reads (c .before .before .before .before))
+plan-by-requires : tie.Need-plan-by-requires
+plan-by-requires c κs = header-sizes _ (reads c)
 
 next-in-requires : tie.Need-next-in-requires
 next-in-requires c κs = search needs
@@ -45,7 +33,7 @@ enum-told-2 c = search needs
 returns : tie.Need-returns
 returns c =
     let plan = c .before .before in
-    next-read (reads (plan .before .before .before .before .before)) (plan .plan-of .ensures .0) (c .next-in .ensures)
+    read (reads (plan .before)) (c .next-in .ensures _ (plan .plan-by .ensures .0))
 
 returns-2 : tie.Need-returns-2
 returns-2 c = refused (was-refused (headerAt _) (c .before .before .before .before .read-header .ensures) (c .enum-told2 .given .1))
@@ -56,11 +44,7 @@ next-fact-spec =
     (tie.spec
     read-header-requires
     enum-told
-    cast-threads
-    cast-shared
-    cast-locals
-    cast-frames
-    plan-of-requires
+    plan-by-requires
     next-in-requires
     enum-told-2
     returns

@@ -1,4 +1,4 @@
--- `report::facts::next_in` meets its contract: what the search comes to is what is listed next.
+-- `report::facts::next_in` meets its contract: what the search comes to is what is listed next, of any table with the plan.
 -- Assumes nothing.
 use native.Mathlib.Omega.{arith}
 use borrow.Author.Needs.{needs}
@@ -8,13 +8,13 @@ use Rattle.report.proofs.facts.next_in.Statement.{statement}
 use Rattle.report.proofs.facts.next_in.Tie as tie
 
 returns : tie.Need-returns
-returns c = next-short (omega arith)
+returns c T is = next-short T is (omega arith)
 
 next-mark-requires : tie.Need-next-mark-requires
 next-mark-requires c κs = search needs
 
 returns-2 : tie.Need-returns-2
-returns-2 c = next-none (c .before .next-mark .ensures) (c .if2 .taken)
+returns-2 c T is = next-none T is (c .before .next-mark .ensures) (c .if2 .taken)
 
 fact-line-requires : tie.Need-fact-line-requires
 fact-line-requires c κs =
@@ -27,8 +27,8 @@ add-next c =
     search (needs, next-found (found .next-mark .ensures) (c .before .before .if2 .left) .here .below, found .before .before .before .pre .w-max)
 
 returns-3 : tie.Need-returns-3
-returns-3 c =
-    next-line (omega arith) (c .before .before .before .next-mark .ensures) (c .before .before .if2 .left) (c .fact-line .ensures)
+returns-3 c T is =
+    next-line T is (omega arith) (c .before .before .before .next-mark .ensures) (c .before .before .if2 .left) (c .fact-line .ensures)
 
 pub next-in-spec : {M : Type 1} → statement M
 next-in-spec =

@@ -1,9 +1,10 @@
--- The first w bytes are lent and cleared, and the others stay as they were.
+-- `store::marks::clear_first` meets its contract: the first w bytes are lent and cleared, and the others stay as they were.
 -- Assumes nothing.
-use mathlib.Core.Path.{_≡_, _∙_}
+use mathlib.Core.Path.{_≡_, ap, _∙_}
+use Prim.Native.Nat.{ℕ}
 use borrow.Author.Needs.{needs}
 use native.Mathlib.Omega.{arith}
-use lib.ListN.{length, take, length-take}
+use lib.ListN.{length, take, replicate, length-take}
 use lib.Seq.{length-take-le}
 use Rattle.store.proofs.MarkLaws.{first-cleared}
 use Rattle.store.proofs.marks.clear_first.Statement.{statement}
@@ -31,7 +32,7 @@ same-length c = search needs
 returns : tie.Need-returns
 returns c =
     let called = c .before .before in
-    first-cleared (called .clear .last .0) _ _ (called .clear .kept .0 ∙ part-long (called .before)) (called .clear .ensures)
+    first-cleared _ _ (called .clear .ensures ∙ ap (λ (k : ℕ). replicate k 0) (part-long (called .before)))
 
 pub clear-first-spec : {M : Type 1} → statement M
 clear-first-spec =

@@ -33,11 +33,11 @@ module _ (c : tie.After-one-arg) where
   abbrev to : ℕ
   to = pFrom s (start .args .t) (start .args .a)
 
-  x-is : c .before .before .before .q-fact .result ≡ from + pair s (r .g) (r .l)
-  x-is = let at = c .before .before .before in omega (arith, at .q-fact .ensures .0, at .before .pair-of .ensures .0)
+  x-is : c .before .before .before .q-position .result ≡ from + pair s (r .g) (r .l)
+  x-is = let at = c .before .before .before in omega (arith, at .q-position .ensures .0, at .before .pair-of .ensures .0)
 
-  y-is : c .before .p-fact .result ≡ to + pair s (r .g) (r .v)
-  y-is = let at = c .before in omega (arith, at .p-fact .ensures .0, at .before .pair-of2 .ensures .0)
+  y-is : c .before .p-position .result ≡ to + pair s (r .g) (r .v)
+  y-is = let at = c .before in omega (arith, at .p-position .ensures .0, at .before .pair-of2 .ensures .0)
 
 cast-g : tie.Need-cast-g
 cast-g c = search needs
@@ -54,14 +54,14 @@ cast-v c = search needs
 pair-of-requires : tie.Need-pair-of-requires
 pair-of-requires c κs = search needs
 
-q-fact-requires : tie.Need-q-fact-requires
-q-fact-requires c κs = search needs
+q-position-requires : tie.Need-q-position-requires
+q-position-requires c κs = search needs
 
 pair-of-requires-2 : tie.Need-pair-of-requires-2
 pair-of-requires-2 c κs = search needs
 
-p-fact-requires : tie.Need-p-fact-requires
-p-fact-requires c κs = search needs
+p-position-requires : tie.Need-p-position-requires
+p-position-requires c κs = search needs
 
 one-requires : tie.Need-one-requires
 one-requires c κs = search needs
@@ -81,9 +81,9 @@ pop-spec =
     cast-u
     cast-v
     pair-of-requires
-    q-fact-requires
+    q-position-requires
     pair-of-requires-2
-    p-fact-requires
+    p-position-requires
     one-requires
     same-length
     returns)

@@ -30,16 +30,16 @@ module _ (c : tie.After-one-arg) where
   d-is : c .before .before .before .before .before .pair-of .result ≡ pair s (r .g) (r .u)
   d-is = c .before .before .before .before .before .pair-of .ensures .0
 
-  x-is : c .before .before .before .p-fact .result ≡ placeOf s (start .args .t) (start .args .a) r
+  x-is : c .before .before .before .p-position .result ≡ placeOf s (start .args .t) (start .args .a) r
   x-is =
       let at = c .before .before .before in
-      at .p-fact .ensures .0 ∙ ap (λ z. pFrom s (start .args .t) (start .args .a) + z) (at .before .pair-of2 .ensures .0)
+      at .p-position .ensures .0 ∙ ap (λ z. pFrom s (start .args .t) (start .args .a) + z) (at .before .pair-of2 .ensures .0)
 
-  y-is : c .before .before .q-fact .result ≡ qFrom s (start .args .t) (start .args .a) + r .v * s .k + pair s (r .g) (r .u)
-  y-is = c .before .before .q-fact .ensures .0 ∙ ap (λ z. qFrom s (start .args .t) (start .args .a) + r .v * s .k + z) d-is
+  y-is : c .before .before .q-position .result ≡ qFrom s (start .args .t) (start .args .a) + r .v * s .k + pair s (r .g) (r .u)
+  y-is = c .before .before .q-position .ensures .0 ∙ ap (λ z. qFrom s (start .args .t) (start .args .a) + r .v * s .k + z) d-is
 
-  z-is : c .before .p-fact2 .result ≡ pFrom s (start .args .t) (pair s (r .g) (r .u)) + pair s (r .g) (r .u)
-  z-is = c .before .p-fact2 .ensures .0 ∙ ap (λ z. pFrom s (start .args .t) z + z) d-is
+  z-is : c .before .p-position2 .result ≡ pFrom s (start .args .t) (pair s (r .g) (r .u)) + pair s (r .g) (r .u)
+  z-is = c .before .p-position2 .ensures .0 ∙ ap (λ z. pFrom s (start .args .t) z + z) d-is
 
 cast-g : tie.Need-cast-g
 cast-g c = search needs
@@ -59,14 +59,14 @@ pair-of-requires c κs = search needs
 pair-of-requires-2 : tie.Need-pair-of-requires-2
 pair-of-requires-2 c κs = search needs
 
-p-fact-requires : tie.Need-p-fact-requires
-p-fact-requires c κs = search needs
+p-position-requires : tie.Need-p-position-requires
+p-position-requires c κs = search needs
 
-q-fact-requires : tie.Need-q-fact-requires
-q-fact-requires c κs = search needs
+q-position-requires : tie.Need-q-position-requires
+q-position-requires c κs = search needs
 
-p-fact-requires-2 : tie.Need-p-fact-requires-2
-p-fact-requires-2 c κs = search needs
+p-position-requires-2 : tie.Need-p-position-requires-2
+p-position-requires-2 c κs = search needs
 
 one-requires : tie.Need-one-requires
 one-requires c κs = search needs
@@ -76,8 +76,8 @@ one-requires-2 c κs =
     let first = c .before .before .before in
     let room = start (first .before) .pre .4 in
     let e = swept-room (first .one .ensures) in
-    let z = first .before .before .p-fact2 .ensures .1 in
-    let x = first .before .before .before .before .p-fact .ensures .1 in
+    let z = first .before .before .p-position2 .ensures .1 in
+    let x = first .before .before .before .before .p-position .ensures .1 in
     (omega arith, omega arith)
 
 same-length : tie.Need-same-length
@@ -100,9 +100,9 @@ push-spec =
     cast-v
     pair-of-requires
     pair-of-requires-2
-    p-fact-requires
-    q-fact-requires
-    p-fact-requires-2
+    p-position-requires
+    q-position-requires
+    p-position-requires-2
     one-requires
     one-requires-2
     same-length

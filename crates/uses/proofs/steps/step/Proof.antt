@@ -31,14 +31,14 @@ module _ (c : tie.After-one-arg) where
   abbrev row : ℕ
   row = pFrom s (start .args .t) (start .args .a)
 
-  x-is : c .before .before .before .before .p-fact .result ≡ placeOf s (start .args .t) (start .args .a) r
-  x-is = let at = c .before .before .before .before in at .p-fact .ensures .0 ∙ ap (λ z. row + z) (at .before .pair-of .ensures .0)
+  x-is : c .before .before .before .before .p-position .result ≡ placeOf s (start .args .t) (start .args .a) r
+  x-is = let at = c .before .before .before .before in at .p-position .ensures .0 ∙ ap (λ z. row + z) (at .before .pair-of .ensures .0)
 
-  y-is : c .before .before .p-fact2 .result ≡ row + pair s (r .u) (r .v)
-  y-is = let at = c .before .before in at .p-fact2 .ensures .0 ∙ ap (λ z. row + z) (at .before .pair-of2 .ensures .0)
+  y-is : c .before .before .p-position2 .result ≡ row + pair s (r .u) (r .v)
+  y-is = let at = c .before .before in at .p-position2 .ensures .0 ∙ ap (λ z. row + z) (at .before .pair-of2 .ensures .0)
 
-  z-is : c .before .g-at .result ≡ gAt s (start .args .t) (r .g) (r .u)
-  z-is = c .before .g-at .ensures
+  z-is : c .before .g-position .result ≡ gAt s (start .args .t) (r .g) (r .u)
+  z-is = c .before .g-position .ensures
 
 cast-g : tie.Need-cast-g
 cast-g c = search needs
@@ -55,17 +55,17 @@ cast-v c = search needs
 pair-of-requires : tie.Need-pair-of-requires
 pair-of-requires c κs = search needs
 
-p-fact-requires : tie.Need-p-fact-requires
-p-fact-requires c κs = search needs
+p-position-requires : tie.Need-p-position-requires
+p-position-requires c κs = search needs
 
 pair-of-requires-2 : tie.Need-pair-of-requires-2
 pair-of-requires-2 c κs = search needs
 
-p-fact-requires-2 : tie.Need-p-fact-requires-2
-p-fact-requires-2 c κs = search needs
+p-position-requires-2 : tie.Need-p-position-requires-2
+p-position-requires-2 c κs = search needs
 
-g-at-requires : tie.Need-g-at-requires
-g-at-requires c κs = search needs
+g-position-requires : tie.Need-g-position-requires
+g-position-requires c κs = search needs
 
 one-requires : tie.Need-one-requires
 one-requires c κs = search needs
@@ -75,7 +75,7 @@ one-requires-2 c κs =
     let first = c .before .before .before in
     let (h, t, a, i, room) = start (first .before) .pre in
     let e = swept-room (first .one .ensures) in
-    let x = first .before .before .before .before .before .p-fact .ensures .1 in
+    let x = first .before .before .before .before .before .p-position .ensures .1 in
     (omega arith, omega (arith, z-is (first .before), g-lt h t (i .g) (i .u), parts h))
 
 same-length : tie.Need-same-length
@@ -97,10 +97,10 @@ step-spec =
     cast-u
     cast-v
     pair-of-requires
-    p-fact-requires
+    p-position-requires
     pair-of-requires-2
-    p-fact-requires-2
-    g-at-requires
+    p-position-requires-2
+    g-position-requires
     one-requires
     one-requires-2
     same-length

@@ -5,7 +5,7 @@ use Prim.Native.Nat.{_-_}
 use native.Mathlib.Omega.{arith}
 use borrow.Author.Needs.{needs}
 use Rattle.store.proofs.MarkLaws.{is-true, is-false}
-use Rattle.verdict.specs.Judged.{rowCell}
+use Rattle.verdict.specs.ErrorRows.{rowCell}
 use Rattle.verdict.specs.Search.{no-failed, picked, unfit, fit}
 use Rattle.verdict.proofs.CellLaws.{cell-eq, shared-cell}
 use Rattle.verdict.proofs.cells.aim.Statement.{statement}

@@ -103,7 +103,9 @@ least-requires c κs =
     (h .0, h .4, c .before .threads-test .taken, omega (arith, c .before .before .threads .inv .1 .at .g-lt))
 
 add-g-2 : tie.Need-add-g-2 Inv-threads μ-threads Inv-shared μ-shared Inv-rows μ-rows
-add-g-2 c = omega (arith, c .before .before .before .before .threads .inv .1 .at .g-lt, in-range (given (c .before .before .before .before)) .0 .g-max)
+add-g-2 c =
+    let at = c .before .before .before .before in
+    omega (arith, at .threads .inv .1 .at .g-lt, in-range (given at) .0 .g-max)
 
 shared-less-2 : tie.Need-shared-less-2 Inv-threads μ-threads Inv-shared μ-shared Inv-rows μ-rows
 shared-less-2 c = omega (arith, c .before .before .before .before .threads .inv .0, c .before .before .before .before .threads .inv .1 .at .g-lt)

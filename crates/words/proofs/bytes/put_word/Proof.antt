@@ -5,7 +5,7 @@ use Prim.Native.Nat.{_-_, _≤_}
 use native.Mathlib.Omega.{arith}
 use borrow.Author.Needs.{needs}
 use lib.ListN.{length, take, length-set}
-use Rattle.words.specs.Putting.{Put}
+use Rattle.numbers.specs.Putting.{Put}
 use Rattle.words.proofs.PutLaws.{put-none, word-more, word-all}
 use Rattle.words.proofs.bytes.put_word.Statement.{statement}
 use Rattle.words.proofs.bytes.put_word.Tie as tie

@@ -3,7 +3,7 @@
 use native.Mathlib.Omega.{arith}
 use borrow.Author.Needs.{needs}
 use Rattle.words.proofs.DecimalLaws.{field-room}
-use Rattle.words.proofs.PutLaws.{put-then}
+use Rattle.numbers.proofs.PutLaws.{put-then}
 use Rattle.words.proofs.line.put_field.Statement.{statement}
 use Rattle.words.proofs.line.put_field.Tie as tie
 

@@ -7,8 +7,8 @@ use borrow.Author.Needs.{needs}
 use Rattle.files.specs.Table.{mostFacts}
 use Rattle.store.specs.Plans.{pFrom}
 use Rattle.store.proofs.Places.{p-lt}
-use Rattle.store.proofs.plan.p_fact.Statement.{statement}
-use Rattle.store.proofs.plan.p_fact.Tie as tie
+use Rattle.store.proofs.plan.p_position.Statement.{statement}
+use Rattle.store.proofs.plan.p_position.Tie as tie
 
 below : (c : tie.Start) → let a = c .args in (pFrom (a .s) (a .t) (a .a) + a .c < a .s .w) × (a .s .w ≤ mostFacts)
 below c = let (h, t, a, d) = c .pre in (p-lt h t a d, h .w-max)
@@ -22,5 +22,5 @@ add-result c = omega (arith, below (c .before), c .p-from .ensures)
 returns : tie.Need-returns
 returns c = (ap (λ z. z + c .before .args .c) (c .p-from .ensures), omega (arith, below (c .before), c .p-from .ensures))
 
-pub p-fact-spec : {M : Type 1} → statement M
-p-fact-spec = tie.close (tie.spec p-from-requires add-result returns)
+pub p-position-spec : {M : Type 1} → statement M
+p-position-spec = tie.close (tie.spec p-from-requires add-result returns)

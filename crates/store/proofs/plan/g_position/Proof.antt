@@ -4,8 +4,8 @@ use Prim.Native.Nat.{_+_, _*_, _≤_}
 use native.Mathlib.Omega.{arith}
 use borrow.Author.Needs.{needs}
 use Rattle.store.proofs.Places.{g-small}
-use Rattle.store.proofs.plan.g_at.Statement.{statement}
-use Rattle.store.proofs.plan.g_at.Tie as tie
+use Rattle.store.proofs.plan.g_position.Statement.{statement}
+use Rattle.store.proofs.plan.g_position.Tie as tie
 
 sizes : (c : tie.Start) → let s = c .args .s in (c .args .t * s .g ≤ 64) × ((c .args .t * s .g + c .args .g) * s .g ≤ 1280)
 sizes c = g-small (c .pre .0) (c .pre .1) (c .pre .2)
@@ -25,5 +25,5 @@ add-result-2 c = omega (arith, sizes (c .before .before))
 returns : tie.Need-returns
 returns c = search needs
 
-pub g-at-spec : {M : Type 1} → statement M
-g-at-spec = tie.close (tie.spec mul-result add-result mul-result-2 add-result-2 returns)
+pub g-position-spec : {M : Type 1} → statement M
+g-position-spec = tie.close (tie.spec mul-result add-result mul-result-2 add-result-2 returns)

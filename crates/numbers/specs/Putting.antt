@@ -1,4 +1,4 @@
--- What the private functions promise: a text is put at a place of a buffer. Only they cite this.
+-- What the functions that write a part of a file or of a text promise: its bytes are put at a place of a buffer. Only private ones cite it.
 use mathlib.Core.Path.{_≡_}
 use mathlib.Core.List.{List}
 use Prim.Native.Nat.{ℕ, _+_}
@@ -9,7 +9,3 @@ use lib.Seq.{sets}
 pub record Put (text : List ℕ) (at : ℕ) (before after : List ℕ) (r : ℕ) : Type 0 where
   pub bytes : after ≡ sets before at text
   pub next : r ≡ at + length text
-
--- a blank and a number of 64 bits, which has at most 20 digits
-abbrev pub fieldRoom : ℕ
-fieldRoom = 21

@@ -7,8 +7,8 @@ use borrow.Author.Needs.{needs}
 use Rattle.files.specs.Table.{mostFacts}
 use Rattle.store.specs.Plans.{qFrom}
 use Rattle.store.proofs.Places.{q-lt}
-use Rattle.store.proofs.plan.q_fact.Statement.{statement}
-use Rattle.store.proofs.plan.q_fact.Tie as tie
+use Rattle.store.proofs.plan.q_position.Statement.{statement}
+use Rattle.store.proofs.plan.q_position.Tie as tie
 
 below : (c : tie.Start) → let a = c .args in (qFrom (a .s) (a .t) (a .a) + a .f * a .s .k + a .c < a .s .w) × (a .s .w ≤ mostFacts)
 below c = let (h, t, a, f, d) = c .pre in (q-lt h t a f d, h .w-max)
@@ -31,5 +31,5 @@ returns c =
     let a = at .before .args in
     (ap (λ z. z + a .f * a .s .k + a .c) (at .q-from .ensures), omega (arith, below (at .before), at .q-from .ensures))
 
-pub q-fact-spec : {M : Type 1} → statement M
-q-fact-spec = tie.close (tie.spec q-from-requires mul-result add-result add-result-2 returns)
+pub q-position-spec : {M : Type 1} → statement M
+q-position-spec = tie.close (tie.spec q-from-requires mul-result add-result add-result-2 returns)

@@ -1,0 +1,31 @@
+-- What reading and writing a claim answer and leave (document 01, "Working memory and claims"). Only contracts of functions that ask for a memory, a
+-- claim or space cite it.
+use Prim.Native.Nat.{ℕ}
+use mathlib.Core.Path.{_≡_}
+use mathlib.Core.List.{List, []}
+use lib.ListN.{length}
+use lib.Seq.{sets}
+use Rattle.numbers.specs.Reading.{Out, got, bad}
+use Rattle.claim_files.specs.declared.reading.Claimed.{Claimed}
+use Rattle.claim_files.specs.declared.reading.Claimed.the-variants as claimed
+use Rattle.claim_files.specs.ClaimFile.{claimAt, claimBytes}
+
+-- s is read as a claim
+pub record IsClaim (w : ℕ) (s : List ℕ) : Type 0 where
+  pub positions : List ℕ
+  pub next : ℕ
+  pub reads : claimAt w s ≡ got positions next
+
+abbrev pub claimedOf : Out (List ℕ) → Claimed
+claimedOf (got ps next) = claimed.Read (length ps)
+claimedOf (bad r) = claimed.Refused r
+
+-- the positions that were read; none where the file is refused
+abbrev pub positionsOf : Out (List ℕ) → List ℕ
+positionsOf (got ps next) = ps
+positionsOf (bad r) = []
+
+-- The claim of ps is written: `after` is `before` with its bytes at the start and no other byte changed, and r is how many bytes that is.
+pub record ClaimPut (ps before after : List ℕ) (r : ℕ) : Type 0 where
+  pub bytes : after ≡ sets before 0 (claimBytes ps)
+  pub count : r ≡ length (claimBytes ps)
