@@ -1,5 +1,5 @@
--- What reading a list of rows answers and leaves in its memory (document 01, "The table, in file order"). Only the contract of `list_after`, which asks
--- for room, and those of private functions cite it.
+-- What reading a list of rows answers and leaves in its memory (document 01, "The table, in file order"). Only the contract of `list_after`, which
+-- asks for room, and those of private functions cite it.
 use Prim.Native.Nat.{ℕ}
 use mathlib.Core.List.{List}
 use lib.ListN.{length, replicate}

@@ -1,4 +1,5 @@
--- What the exported functions do, on every input: some answer that the call's own contract allows is told as its numbers, and its number is given.
+-- What the exported functions do, on every input (document 01, "What comes back"): some answer that the call's own contract allows is told as its
+-- numbers, and its number is given.
 use mathlib.Core.Path.{_≡_}
 use mathlib.Core.List.{List}
 use Prim.Native.Nat.{ℕ}
