@@ -4,30 +4,21 @@ use mathlib.Core.List.{List, []}
 use Prim.Native.Nat.{ℕ}
 use lib.Dec.{eqb}
 use Rattle.numbers.specs.Reading.{pick}
-use Rattle.verdict.specs.declared.search.Verdict.{Verdict}
 use Rattle.text.specs.Listing.{bytesLine, acceptedLine, claimRefusedLine}
 use Rattle.report.specs.Answers.{lineOfVerdict}
 use Rattle.rules.specs.declared.answer.Reply.{Reply}
 use Rattle.claim_writing.specs.declared.answer.WriteAnswer.{WriteAnswer}
-use Rattle.claim_writing.specs.declared.answer.WriteAnswer.the-variants.{Written, Refused, Short, Over, NoSpace}
+use Rattle.claim_writing.specs.Answers.{whereWritten}
 
 -- ---- claim writing
 
--- a line by the verdict and the number of bytes, where a claim is written; a refusal has none
-abbrev pub whereWritten : (Verdict → ℕ → List ℕ) → WriteAnswer → List ℕ
-whereWritten text (Written count verdict bytes) = text verdict bytes
-whereWritten text (Refused refusal) = []
-whereWritten text (Short room) = []
-whereWritten text (Over budget) = []
-whereWritten text (NoSpace needed) = []
-
--- the verdict on a table of n threads
+-- the verdict on a table of n threads; a refusal has no line
 abbrev pub verdictLine : ℕ → WriteAnswer → List ℕ
-verdictLine n = whereWritten (λ verdict bytes. lineOfVerdict n verdict)
+verdictLine n = whereWritten (λ verdict bytes. lineOfVerdict n verdict) []
 
 -- how many bytes the claim takes
 abbrev pub bytesLineOf : WriteAnswer → List ℕ
-bytesLineOf = whereWritten (λ verdict bytes. bytesLine bytes)
+bytesLineOf = whereWritten (λ verdict bytes. bytesLine bytes) []
 
 -- ---- the claim check
 

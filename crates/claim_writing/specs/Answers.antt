@@ -1,4 +1,6 @@
 -- Document 01's number, origin and value of each answer of claim writing ("What comes back"). No claim is read, so the origin is 0.
+use Prim.Native.Nat.{ℕ}
+use Rattle.verdict.specs.declared.search.Verdict.{Verdict}
 use Rattle.rules.specs.declared.answer.Reply.{Reply}
 use Rattle.rules.specs.Answers.{plain, told}
 use Rattle.claim_writing.specs.declared.answer.WriteAnswer.{WriteAnswer}
@@ -10,3 +12,11 @@ writeReplyOf (Refused refusal) = told 0 refusal
 writeReplyOf (Short room) = plain 7 room
 writeReplyOf (Over budget) = plain 8 budget
 writeReplyOf (NoSpace needed) = plain 12 needed
+
+-- what a written claim gives by its verdict and its number of bytes, and what stands in its place where none is written
+abbrev pub whereWritten : {A : Type 0} → (Verdict → ℕ → A) → A → WriteAnswer → A
+whereWritten given none (Written count verdict bytes) = given verdict bytes
+whereWritten given none (Refused refusal) = none
+whereWritten given none (Short room) = none
+whereWritten given none (Over budget) = none
+whereWritten given none (NoSpace needed) = none

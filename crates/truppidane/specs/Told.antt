@@ -10,9 +10,8 @@ use Rattle.rules.specs.declared.answer.Reply.{Reply}
 use Rattle.rules.specs.Answers.{replyOf}
 use Rattle.claim_checking.specs.declared.answer.ClaimAnswer.{ClaimAnswer}
 use Rattle.claim_writing.specs.declared.answer.WriteAnswer.{WriteAnswer}
-use Rattle.claim_writing.specs.declared.answer.WriteAnswer.the-variants as write
 use Rattle.claim_checking.specs.Answers as claim
-use Rattle.claim_writing.specs.Answers.{writeReplyOf}
+use Rattle.claim_writing.specs.Answers.{writeReplyOf, whereWritten}
 use Rattle.truppidane.specs.declared.told.VerdictNumbers.{VerdictNumbers}
 
 -- the numbers in their order
@@ -37,14 +36,6 @@ checkVerdict (check.Done count verdict) = ofVerdict verdict
 checkVerdict (check.Refused refusal) = noVerdict
 checkVerdict (check.Short room) = noVerdict
 checkVerdict (check.Over budget) = noVerdict
-
--- what a written claim gives by its verdict and its number of bytes, and what stands in its place where none is written
-abbrev pub whereWritten : {A : Type 0} → (Verdict → ℕ → A) → A → WriteAnswer → A
-whereWritten given none (write.Written count verdict bytes) = given verdict bytes
-whereWritten given none (write.Refused refusal) = none
-whereWritten given none (write.Short room) = none
-whereWritten given none (write.Over budget) = none
-whereWritten given none (write.NoSpace needed) = none
 
 abbrev pub writeVerdict : WriteAnswer → VerdictNumbers
 writeVerdict = whereWritten (λ verdict bytes. ofVerdict verdict) noVerdict
