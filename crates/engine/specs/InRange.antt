@@ -1,4 +1,4 @@
--- What is given is in range. Only the engine's own functions cite this file: of a sound table it is so.
+-- What is given is in range. Of a sound table it is so, and the engine's own functions ask for no more.
 use mathlib.Core.List.{List}
 use Prim.Native.Nat.{ℕ, _<_, _≤_}
 use lib.ListN.{getD, length}
