@@ -22,11 +22,11 @@ use Rattle.store.specs.Plans.{planOf}
 use Rattle.store.specs.Reading.{Reads}
 use Rattle.store.proofs.MarkLaws.{put-room, has?, has-before, BitsTo, bits-put, total-put, marked-has, has-marked}
 use Rattle.uses.specs.Uses.{Uses, Lacks}
-use Rattle.engine.specs.AllUses.{AllUses}
+use Rattle.uses.specs.AllUses.{AllUses}
 use Rattle.uses.specs.Passing.{Grew, none, more}
 use Rattle.uses.proofs.PassLaws.{grew-has}
 use Rattle.uses.proofs.Bridge.{used-lacks}
-use Rattle.engine.proofs.UsesAreYields.{yields-used, lacks-yields}
+use Rattle.uses.proofs.UsesAreYields.{yields-used, lacks-yields}
 
 -- c facts are marked, all of them derivable
 pub record Derivable (T : Table) (c : ℕ) (m : List ℕ) : Type 0 where

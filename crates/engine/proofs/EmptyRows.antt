@@ -17,8 +17,8 @@ use Rattle.uses.specs.Passing.{Swept}
 use Rattle.uses.proofs.PassLaws.{swept-empty, swept-idle}
 use Rattle.uses.proofs.Premises.{some-part, steps-in, pushes-in, pops-in, calls-in, moved-in}
 use Rattle.engine.specs.InRange.{Given}
-use Rattle.engine.specs.AllUses.{FrameUses, PRow, QRow, QRows}
-use Rattle.engine.proofs.RowNumbers.{p-begins, q-begins}
+use Rattle.uses.specs.AllUses.{FrameUses, PRow, QRow, QRows}
+use Rattle.uses.proofs.RowNumbers.{p-begins, q-begins}
 
 module _ (m : List ℕ) where
   -- row i of the P facts

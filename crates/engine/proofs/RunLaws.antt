@@ -3,25 +3,29 @@
 -- Assumes nothing.
 use mathlib.Core.Path.{_≡_, refl, sym, subst, _∙_}
 use mathlib.Core.Bool.{true, false}
+use mathlib.Core.Logic.{_⊎_, inl, inr}
 use mathlib.Core.List.{List}
 use Prim.Native.Nat.{ℕ, suc, _+_, _<_, _≤_}
 use native.Mathlib.Omega.{arith}
-use Rattle.files.specs.Table.{Table, W}
+use Rattle.files.specs.Table.{Table, Sound, W}
 use Rattle.model.specs.Rules.{Starts}
 use Rattle.model.specs.Memory.{Relations, Marked, FactCount, Exceeds}
+use Rattle.model.specs.Claims.{Missing}
 use Rattle.store.specs.declared.plan.Plan.{Plan}
 use Rattle.store.specs.declared.rows.RowCounts.{RowCounts}
 use Rattle.store.specs.Marking.{room, Clear}
 use Rattle.store.specs.Plans.{planOf}
+use Rattle.store.specs.Reading.{Reads}
 use Rattle.store.proofs.PlanIsModel.{w-is}
 use Rattle.uses.specs.declared.lines.Pass.{Pass}
-use Rattle.engine.specs.AllUses.{AllUses}
+use Rattle.uses.specs.Uses.{Lacks}
+use Rattle.uses.specs.AllUses.{AllUses}
 use Rattle.uses.specs.Passing.{Looked}
 use Rattle.engine.specs.Working.{Settled, Worked, looked, settled}
 use Rattle.engine.specs.Given.{RowsOf, StartOf}
 use Rattle.engine.specs.Starting.{begun}
-use Rattle.engine.specs.Answers.{Confirmed}
-use Rattle.engine.proofs.UsesAreYields.{looked-confirmed}
+use Rattle.engine.specs.Answers.{Confirmed, lacking, whole}
+use Rattle.uses.proofs.UsesAreYields.{lacks-missing, missing-lacks}
 use Rattle.engine.proofs.Derivable.{Derivable, exceeds, derivable-grew, starts-grew, held, counted}
 use Rattle.engine.proofs.StartLaws.{begun-clear}
 
@@ -77,6 +81,18 @@ worked-settled (settled s) = s
 
 pub worked-looked : {A : ℕ → ℕ → ℕ → Type 0} {b r : Pass} {m m′ : List ℕ} → Worked A false b r m m′ → Looked A b r m × (m′ ≡ m)
 worked-looked (looked k) = (k, refl)
+
+-- a pass that looks finds the smallest missing position
+looked-confirmed : {T : Table} → Sound T → {n : RowCounts} {st pu po : List ℕ} → Reads T n st pu po → (m : List ℕ) {b r : Pass} → b .best ≡ W T
+    → 0 < b .left → Looked (AllUses (planOf T) n st pu po) b r m → Confirmed T m (r .best)
+looked-confirmed {T} sound {n} {st} {pu} {po} reads m {b} {r} e h k = go (k .first)
+  where
+    least : (y : ℕ) → Missing T (Marked T m) y → r .best ≤ y
+    least y s = k .least h y (missing-lacks sound reads m y s)
+
+    go : (r .best ≡ b .best) ⊎ Lacks (AllUses (planOf T) n st pu po) m (r .best) → Confirmed T m (r .best)
+    go (inl i) = whole (i ∙ e) (λ y s. absurd (omega (arith, s .below, least y s)))
+    go (inr l) = lacking (record { here = lacks-missing sound reads m (r .best) l; none = λ y lt s. absurd (omega (arith, least y s)) })
 
 pub confirmed : {T : Table} {s : Plan} {n : RowCounts} {st pu po : List ℕ} → RowsOf T s n st pu po → (m : List ℕ) {b r : Pass} → b .best ≡ s .w
     → 0 < b .left → Looked (AllUses s n st pu po) b r m → Confirmed T m (r .best)

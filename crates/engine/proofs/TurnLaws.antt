@@ -17,12 +17,12 @@ use Rattle.engine.specs.declared.turns.Turn.{Turn}
 use Rattle.engine.specs.InRange.{Given}
 use Rattle.uses.specs.Uses.{Uses, Either, Under, Upto, Lacks}
 use Rattle.uses.specs.Passing.{Swept}
-use Rattle.engine.specs.AllUses.{PRow, QRows, AllUses}
+use Rattle.uses.specs.AllUses.{PRow, QRows, AllUses}
 use Rattle.engine.specs.Working.{Worked}
 use Rattle.engine.specs.Turns.{rowsOf, NextRow, Covered, Behind, Turning, RowsDone, Goes, turnsLeft}
 use Rattle.uses.proofs.PassLaws.{swept-idle}
 use Rattle.engine.proofs.EmptyRows.{p-row-some}
-use Rattle.engine.proofs.RowNumbers.{rows-pos}
+use Rattle.uses.proofs.RowNumbers.{rows-pos}
 use Rattle.engine.proofs.Covering.{
   swept-fewer,
   covered-fewer,

@@ -4,7 +4,6 @@
 --   StartFacts  where the start facts stand
 --   Answers     what a run and the smallest missing position answer
 -- What only private functions cite:
---   AllUses     the uses of all rules
 --   Working     what the work comes to
 --   Turns       turns of the rows of P facts
 --   Starting    the memory with the start facts
@@ -12,7 +11,6 @@ pub mod Given
 pub mod InRange
 pub mod StartFacts
 pub mod Answers
-pub mod AllUses
 pub mod Working
 pub mod Turns
 pub mod Starting

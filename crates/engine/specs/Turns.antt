@@ -12,7 +12,7 @@ use Rattle.engine.specs.declared.turns.Turn.{Turn}
 use Rattle.uses.specs.Uses.{Uses, Either, Under, Upto, Lacks}
 use Rattle.uses.specs.RuleUses.{StepUses}
 use Rattle.uses.specs.Passing.{Puts, Looked, Swept}
-use Rattle.engine.specs.AllUses.{PRow, QRows, AllUses}
+use Rattle.uses.specs.AllUses.{PRow, QRows, AllUses}
 
 -- how many rows of P facts there are
 abbrev pub rowsOf : Plan → ℕ

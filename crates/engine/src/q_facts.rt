@@ -5,16 +5,16 @@ ghost use Rattle.store.specs.Plans.{Planned};
 ghost use Rattle.uses.specs.Ranges.{RowsIn};
 ghost use Rattle.uses.specs.Uses.{Upto};
 ghost use Rattle.uses.specs.Passing.{Swept};
-ghost use Rattle.engine.specs.AllUses.{FrameUses, QRow, QRows};
+ghost use Rattle.uses.specs.AllUses.{FrameUses, QRow, QRows};
+use passes::calls::calls;
+use passes::guarantees::guarantees;
+use passes::row_rules::rows_of;
 use store::marks::some;
 use store::plan::Plan;
 use store::plan::q_from;
 use store::rows::RowCounts;
-use uses::calls::calls;
-use uses::guarantees::guarantees;
+use uses::kinds::Kind;
 use uses::lines::Pass;
-use uses::row_rules::Kind;
-use uses::row_rules::rows_of;
 
 // The Q facts of t from pair a with frame f, but for rule 7.
 fn frame(s: Plan, t: usize, a: usize, f: usize, mem: &mut [u8], put: bool, pass: Pass) -> Pass

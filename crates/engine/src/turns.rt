@@ -10,17 +10,17 @@ ghost use Rattle.store.specs.Plans.{Planned};
 ghost use Rattle.uses.specs.Ranges.{RowsIn};
 ghost use Rattle.engine.specs.InRange.{Given};
 ghost use Rattle.uses.specs.Passing.{Swept};
-ghost use Rattle.engine.specs.AllUses.{RestUses};
+ghost use Rattle.uses.specs.AllUses.{RestUses};
 ghost use Rattle.engine.specs.Turns.{rowsOf, NextRow, RowsDone, Turning, Stepped, Goes};
 use crate::q_facts::q_rows;
+use passes::guarantees::guarantees;
+use passes::row_rules::rows_of;
 use store::marks::some;
 use store::plan::Plan;
 use store::plan::p_from;
 use store::rows::RowCounts;
-use uses::guarantees::guarantees;
+use uses::kinds::Kind;
 use uses::lines::Pass;
-use uses::row_rules::Kind;
-use uses::row_rules::rows_of;
 
 // The row of P facts whose turn it is, and what the work carries; `before` is how many marks could still be put when the round began. A row past
 // the last ends the work.

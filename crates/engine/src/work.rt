@@ -2,7 +2,7 @@
 ghost use Prim.Native.Nat.{_≤_};
 ghost use Rattle.store.specs.Marking.{room};
 ghost use Rattle.engine.specs.InRange.{Given};
-ghost use Rattle.engine.specs.AllUses.{AllUses};
+ghost use Rattle.uses.specs.AllUses.{AllUses};
 ghost use Rattle.engine.specs.Working.{Worked};
 use crate::turns::first_turn;
 use crate::turns::goes_on;
@@ -10,11 +10,11 @@ use crate::turns::next_turn;
 use crate::turns::pair_from;
 use crate::turns::pass_of;
 use crate::turns::thread_of;
+use steps::walk;
 use store::plan::Plan;
 use store::rows::RowCounts;
 use store::rows::step_rows;
 use uses::lines::Pass;
-use uses::steps::walk;
 
 // Puts marks until nothing lacks or none is left to put, or looks once over every use.
 pub fn work(

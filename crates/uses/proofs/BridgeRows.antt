@@ -14,7 +14,7 @@ use Rattle.store.specs.Marking.{Has}
 use Rattle.store.specs.Plans.{planOf}
 use Rattle.store.specs.Reading.{rowOf, stepOf, pushOf, popOf, Same}
 use Rattle.store.proofs.PlanIsModel.{pos-g, pos-p-row, pos-q-row}
-use Rattle.uses.specs.declared.row_rules.Kind.the-variants.{Push as Pushing, Pop as Popping}
+use Rattle.uses.specs.declared.kinds.Kind.the-variants.{Push as Pushing, Pop as Popping}
 use Rattle.uses.specs.Uses.{Uses}
 use Rattle.uses.specs.RuleUses.{StepUse, PushUse, PopUse, OfRows, StepUses, RowUses}
 use Rattle.uses.proofs.Bridge.{Used, upto-at, used-from, Yielded, one-yields, g-stands, p-stands, q-stands}

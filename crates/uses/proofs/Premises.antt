@@ -12,7 +12,7 @@ use Rattle.store.specs.Marking.{Has, SomeIn}
 use Rattle.store.specs.Plans.{Planned, pFrom, qFrom}
 use Rattle.store.specs.Reading.{rowOf}
 use Rattle.store.proofs.Places.{pair-lt, q-row, cut}
-use Rattle.uses.specs.declared.row_rules.Kind.the-variants.{Push, Pop}
+use Rattle.uses.specs.declared.kinds.Kind.the-variants.{Push, Pop}
 use Rattle.uses.specs.Ranges.{EachIn}
 use Rattle.uses.specs.Uses.{Single, Either, Upto}
 use Rattle.uses.specs.RuleUses.{StepUses, RowUses, CallUse, MovedUse}

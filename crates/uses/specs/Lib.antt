@@ -3,7 +3,9 @@
 --   Passing   what a pass over such a set does
 --   Ranges    rows in range
 --   RuleUses  the uses of each rule
+--   AllUses   the uses of all rules
 pub mod Uses
 pub mod Passing
 pub mod Ranges
 pub mod RuleUses
+pub mod AllUses

@@ -7,8 +7,8 @@ use Rattle.store.specs.declared.plan.Plan.{Plan}
 use Rattle.store.specs.declared.rows.Row.{Row}
 use Rattle.store.specs.Plans.{pair, pFrom, qFrom, gAt}
 use Rattle.store.specs.Reading.{rowOf}
-use Rattle.uses.specs.declared.row_rules.Kind.{Kind}
-use Rattle.uses.specs.declared.row_rules.Kind.the-variants.{Push, Pop}
+use Rattle.uses.specs.declared.kinds.Kind.{Kind}
+use Rattle.uses.specs.declared.kinds.Kind.the-variants.{Push, Pop}
 use Rattle.uses.specs.Ranges.{RowIn}
 use Rattle.uses.specs.Uses.{Uses, Single, Either, Upto, With, Under, Line}
 

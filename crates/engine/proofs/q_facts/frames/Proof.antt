@@ -6,7 +6,7 @@ use native.Mathlib.Omega.{arith}
 use borrow.Author.Needs.{needs}
 use Rattle.uses.specs.Uses.{Upto}
 use Rattle.uses.specs.Passing.{Swept}
-use Rattle.engine.specs.AllUses.{FrameUses}
+use Rattle.uses.specs.AllUses.{FrameUses}
 use Rattle.uses.proofs.PassLaws.{swept-room, swept-of, upto-none, upto-next}
 use Rattle.engine.proofs.q_facts.frames.Statement.{statement}
 use Rattle.engine.proofs.q_facts.frames.Tie as tie

@@ -5,7 +5,7 @@ use borrow.Author.Needs.{needs}
 use borrow.Author.Tests.{not-true}
 use Rattle.store.proofs.MarkLaws.{is-false}
 use Rattle.uses.proofs.PassLaws.{swept-room, and-then}
-use Rattle.engine.proofs.RowNumbers.{k-pos, frames-small, row-thread, row-pair, q-room}
+use Rattle.uses.proofs.RowNumbers.{k-pos, frames-small, row-thread, row-pair, q-room}
 use Rattle.engine.proofs.EmptyRows.{q-row-empty}
 use Rattle.engine.proofs.q_facts.q_row.Statement.{statement}
 use Rattle.engine.proofs.q_facts.q_row.Tie as tie

@@ -6,10 +6,10 @@ use native.Mathlib.Omega.{arith}
 use borrow.Author.Needs.{needs}
 use Rattle.uses.specs.Uses.{Upto}
 use Rattle.uses.specs.Passing.{Swept}
-use Rattle.engine.specs.AllUses.{QRow}
+use Rattle.uses.specs.AllUses.{QRow}
 use Rattle.uses.proofs.PassLaws.{swept-room, swept-of, upto-none, upto-next, upto-spent}
 use Rattle.engine.proofs.EmptyRows.{no-frames}
-use Rattle.engine.proofs.RowNumbers.{rows-small}
+use Rattle.uses.proofs.RowNumbers.{rows-small}
 use Rattle.engine.proofs.q_facts.q_rows.Statement.{statement}
 use Rattle.engine.proofs.q_facts.q_rows.Tie as tie
 

@@ -4,7 +4,7 @@
 use native.Mathlib.Omega.{arith}
 use borrow.Author.Needs.{needs}
 use Rattle.store.proofs.MarkLaws.{is-true}
-use Rattle.engine.proofs.RowNumbers.{rows-small}
+use Rattle.uses.proofs.RowNumbers.{rows-small}
 use Rattle.engine.proofs.TurnLaws.{begins-anew, all-covered, all-fewer, ends-settled, ends-spent}
 use Rattle.engine.proofs.turns.end_of_round.Statement.{statement}
 use Rattle.engine.proofs.turns.end_of_round.Tie as tie

@@ -2,7 +2,7 @@
 -- Assumes nothing.
 use native.Mathlib.Omega.{arith}
 use borrow.Author.Needs.{needs}
-use Rattle.engine.proofs.RowNumbers.{rows-small}
+use Rattle.uses.proofs.RowNumbers.{rows-small}
 use Rattle.engine.proofs.turns.goes_on.Statement.{statement}
 use Rattle.engine.proofs.turns.goes_on.Tie as tie
 

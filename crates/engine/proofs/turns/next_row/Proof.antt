@@ -9,7 +9,8 @@ use Rattle.store.specs.Marking.{SomeIn}
 use Rattle.store.proofs.MarkLaws.{is-true, is-false}
 use Rattle.store.proofs.Places.{parts}
 use Rattle.engine.specs.Turns.{NoneBetween}
-use Rattle.engine.proofs.RowNumbers.{rows-small, p-room, rows-end, none-more}
+use Rattle.uses.proofs.RowNumbers.{rows-small, p-room}
+use Rattle.engine.proofs.NextRow.{rows-end, none-more}
 use Rattle.engine.proofs.turns.next_row.Statement.{statement}
 use Rattle.engine.proofs.turns.next_row.Tie as tie
 

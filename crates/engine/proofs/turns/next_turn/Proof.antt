@@ -4,7 +4,7 @@
 use native.Mathlib.Omega.{arith}
 use borrow.Author.Needs.{needs}
 use Rattle.uses.proofs.PassLaws.{swept-room, and-then}
-use Rattle.engine.proofs.RowNumbers.{k-pos, rows-small, row-thread, row-pair}
+use Rattle.uses.proofs.RowNumbers.{k-pos, rows-small, row-thread, row-pair}
 use Rattle.engine.proofs.TurnLaws.{goes-spent, goes-again, goes-next, rows-done}
 use Rattle.engine.proofs.turns.next_turn.Statement.{statement}
 use Rattle.engine.proofs.turns.next_turn.Tie as tie

@@ -2,7 +2,7 @@
 -- Assumes nothing.
 use mathlib.Core.Path.{refl}
 use native.Mathlib.Omega.{arith}
-use Rattle.engine.proofs.RowNumbers.{k-pos, row-pair}
+use Rattle.uses.proofs.RowNumbers.{k-pos, row-pair}
 use Rattle.engine.proofs.turns.pair_from.Statement.{statement}
 use Rattle.engine.proofs.turns.pair_from.Tie as tie
 

@@ -2,7 +2,7 @@
 -- Assumes nothing.
 use mathlib.Core.Path.{refl}
 use native.Mathlib.Omega.{arith}
-use Rattle.engine.proofs.RowNumbers.{k-pos, row-thread}
+use Rattle.uses.proofs.RowNumbers.{k-pos, row-thread}
 use Rattle.engine.proofs.turns.thread_of.Statement.{statement}
 use Rattle.engine.proofs.turns.thread_of.Tie as tie
 

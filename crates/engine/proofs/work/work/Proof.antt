@@ -21,11 +21,11 @@ use Rattle.uses.specs.Passing.{Swept}
 use Rattle.uses.specs.RuleUses.{StepUses}
 use Rattle.engine.specs.declared.turns.Turn.{Turn}
 use Rattle.engine.specs.InRange.{Given as Ready}
-use Rattle.engine.specs.AllUses.{AllUses}
+use Rattle.uses.specs.AllUses.{AllUses}
 use Rattle.engine.specs.Working.{Worked}
 use Rattle.engine.specs.Turns.{rowsOf, turnsLeft, Turning, Stepped, Goes}
 use Rattle.uses.proofs.PassLaws.{swept-room, swept-of}
-use Rattle.uses.proofs.ListLaws.{taken-length, taken-in, taken-swept}
+use Rattle.steps.proofs.ListLaws.{taken-length, taken-in, taken-swept}
 use Rattle.engine.proofs.Covering.{covered-room}
 use Rattle.engine.proofs.TurnLaws.{first-turning, last-turning}
 use Rattle.store.proofs.rows.RowCounts as counts-type
@@ -33,10 +33,10 @@ use Rattle.store.proofs.rows.RowCounts.Laws as counts-laws
 use Rattle.store.proofs.rows.step_rows.Kinds as rows-kinds
 use Rattle.store.proofs.rows.step_rows.Reads as rows-reads
 use Rattle.store.proofs.rows.step_rows.Met as rows-thm
-use Rattle.uses.proofs.WalkKinds as walk-kinds
-use Rattle.uses.proofs.WalkKinds.{Plans, Rows, Passes, row-named}
-use Rattle.uses.proofs.WalkReads as walk-reads
-use Rattle.uses.proofs.steps.walk.Met as walk-thm
+use Rattle.steps.proofs.WalkKinds as walk-kinds
+use Rattle.steps.proofs.WalkKinds.{Plans, Rows, Passes, row-named}
+use Rattle.steps.proofs.WalkReads as walk-reads
+use Rattle.steps.proofs.walk.Met as walk-thm
 use Rattle.engine.proofs.turns.Turn as turn-type
 use Rattle.engine.proofs.turns.Turn.Laws as turn-laws
 use Rattle.engine.proofs.turns.first_turn.Kinds as first-kinds
@@ -62,15 +62,15 @@ use Rattle.engine.proofs.work.work.Reads as reads
 use Rattle.engine.proofs.work.work.Code as code
 use Rattle.engine.proofs.work.work.Key as key
 use Rattle.engine.proofs.work.work.Statement.{statement}
-use Rattle.uses.proofs.Derivations.{URA, Lfts, Shares, tablesOf, givenOf, Ty, tyInt, tyBool, tyRef, tyArray, w8, w64, named, erased, imm, mut, field}
-use Rattle.uses.proofs.Derivations.{valueLocal, memorySlot, vint, Heap, Tables, WpFn, Atoms, Given, RattleType, sliceTy, Triple, ltb-true, ltb-false}
-use Rattle.uses.proofs.Derivations.{Cx, Life, sBool, lease, dead, getRow, get, set, sc-here, whole, Mo, oAt, oFld, After, mslice, msleft, setVals}
-use Rattle.uses.proofs.Derivations.{asMut, asShr, ssptr, msptr, mslice-owed, reads-owed-len, lenV, room-sslice, fieldV, reads-field, vAt, bAt}
-use Rattle.uses.proofs.Derivations.{fix-len, plainOf, Callee, Over, World, u64, n64, v64, bytes, lent, Data, rowOf, tyOf, tyArrayOf, arrayHere, dAt}
-use Rattle.uses.proofs.Derivations.{sAt, mAt, At, gone, over, over-data, over-array, like, read, slice-arg, mut-arg, copied, copied-array, _⨾_, _▸_}
-use Rattle.uses.proofs.Derivations.{_◂_, after, from, falls, skips, leaves, returns, blocks, loops, branches, sets, frees, begins, ends, forgets}
-use Rattle.uses.proofs.Derivations.{it, _&_, arr-shrP, lends, packs, returned, shares, unshares, calls, copies-array, Function, entry, inside}
-use Rattle.uses.proofs.Derivations.{Derived, Left, meets}
+use Rattle.steps.proofs.Derivations.{URA, Lfts, Shares, tablesOf, givenOf, Ty, tyInt, tyBool, tyRef, tyArray, w8, w64, named, erased, imm, mut, field}
+use Rattle.steps.proofs.Derivations.{valueLocal, memorySlot, vint, Heap, Tables, WpFn, Atoms, Given, RattleType, sliceTy, Triple, ltb-true, ltb-false}
+use Rattle.steps.proofs.Derivations.{Cx, Life, sBool, lease, dead, getRow, get, set, sc-here, whole, Mo, oAt, oFld, After, mslice, msleft, setVals}
+use Rattle.steps.proofs.Derivations.{asMut, asShr, ssptr, msptr, mslice-owed, reads-owed-len, lenV, room-sslice, fieldV, reads-field, vAt, bAt}
+use Rattle.steps.proofs.Derivations.{fix-len, plainOf, Callee, Over, World, u64, n64, v64, bytes, lent, Data, rowOf, tyOf, tyArrayOf, arrayHere, dAt}
+use Rattle.steps.proofs.Derivations.{sAt, mAt, At, gone, over, over-data, over-array, like, read, slice-arg, mut-arg, copied, copied-array, _⨾_, _▸_}
+use Rattle.steps.proofs.Derivations.{_◂_, after, from, falls, skips, leaves, returns, blocks, loops, branches, sets, frees, begins, ends, forgets}
+use Rattle.steps.proofs.Derivations.{it, _&_, arr-shrP, lends, packs, returned, shares, unshares, calls, copies-array, Function, entry, inside}
+use Rattle.steps.proofs.Derivations.{Derived, Left, meets}
 
 -- ---- types
 
@@ -176,7 +176,7 @@ module _ {M : Type 1} (𝓤 : URA M) (H : Heap 𝓤) (A : Atoms 𝓤) (W : Given
     (thread-of : Callee 𝓤 H A W 𝓣 0 thread-kinds.ps thread-kinds.r thread-reads.Asked thread-reads.Learnt "engine::turns::thread_of")
     (pair-from : Callee 𝓤 H A W 𝓣 0 pair-kinds.ps pair-kinds.r pair-reads.Asked pair-reads.Learnt "engine::turns::pair_from")
     (pass-of : Callee 𝓤 H A W 𝓣 0 pass-kinds.ps pass-kinds.r pass-reads.Asked pass-reads.Learnt "engine::turns::pass_of")
-    (walk : Callee 𝓤 H A W 𝓣 2 walk-kinds.ps walk-kinds.r walk-reads.Asked walk-reads.Learnt "uses::steps::walk")
+    (walk : Callee 𝓤 H A W 𝓣 2 walk-kinds.ps walk-kinds.r walk-reads.Asked walk-reads.Learnt "steps::walk")
     (next-turn : Callee 𝓤 H A W 𝓣 3 next-kinds.ps next-kinds.r next-reads.Asked next-reads.Learnt "engine::turns::next_turn") where
   module _ (κs : Lfts 4) (qs : Shares 4) (bs : List ℕ) where
     abbrev w : At
@@ -361,5 +361,5 @@ work-spec {M} 𝓤 H 𝓜 𝓖 𝓡 =
     (record { known = thread-reads.known w code.env "engine::turns::thread_of" _ code.calls-engine·turns·thread-of (thread-thm.met 𝓤 H 𝓜 𝓖 𝓡) })
     (record { known = pair-reads.known w code.env "engine::turns::pair_from" _ code.calls-engine·turns·pair-from (pair-thm.met 𝓤 H 𝓜 𝓖 𝓡) })
     (record { known = pass-reads.known w code.env "engine::turns::pass_of" _ code.calls-engine·turns·pass-of (pass-thm.met 𝓤 H 𝓜 𝓖 𝓡) })
-    (record { known = walk-reads.known w code.env "uses::steps::walk" _ code.calls-uses·steps·walk (walk-thm.met 𝓤 H 𝓜 𝓖 𝓡) })
+    (record { known = walk-reads.known w code.env "steps::walk" _ code.calls-steps·walk (walk-thm.met 𝓤 H 𝓜 𝓖 𝓡) })
     (record { known = next-reads.known w code.env "engine::turns::next_turn" _ code.calls-engine·turns·next-turn (next-thm.met 𝓤 H 𝓜 𝓖 𝓡) }))

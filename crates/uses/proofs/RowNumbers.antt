@@ -1,0 +1,55 @@
+-- Row i is that of thread i / k and pair i % k, and the row of t and a is row t * k + a.
+-- Assumes nothing.
+use mathlib.Core.Path.{_≡_, ap, sym, subst}
+use Prim.Native.Nat.{ℕ, _+_, _*_, _/_, _%_, _<_, _≤_}
+use native.Mathlib.Nat.{mod-lt, mul-le-mul, div-lt-iff-lt-mul, div-add-mod'}
+use native.Mathlib.Omega.{arith}
+use lib.Arith.{digits-lt, digits-div, digits-mod}
+use Rattle.store.specs.declared.plan.Plan.{Plan}
+use Rattle.store.specs.Plans.{Planned, pFrom, qFrom}
+use Rattle.store.proofs.Places.{p-row, q-rows}
+use Rattle.uses.specs.Uses.{Uses, Upto}
+
+module _ {s : Plan} (h : Planned s) where
+  -- there is a row
+  pub k-pos : 0 < s .k
+  k-pos = omega (arith, mul-le-mul {n₁ = 1} {m₁ = 1} (h .g-pos) (h .l-pos), h .k)
+
+  pub rows-pos : 0 < s .n * s .k
+  rows-pos = omega (arith, mul-le-mul {n₁ = 1} {m₁ = 1} (h .n-pos) k-pos)
+
+  -- the rows are at most 1024
+  pub rows-small : s .n * s .k ≤ 1024
+  rows-small = mul-le-mul {n₂ = 4} {m₂ = 256} (h .n-max) (h .k-max)
+
+  pub frames-small : s .f * s .k ≤ 2048
+  frames-small = mul-le-mul {n₂ = 8} {m₂ = 256} (h .f-max) (h .k-max)
+
+  module _ {i : ℕ} (l : i < s .n * s .k) where
+    pub row-thread : i / s .k < s .n
+    row-thread = div-lt-iff-lt-mul k-pos .1 l
+
+    pub row-pair : i % s .k < s .k
+    row-pair = mod-lt i k-pos
+
+    -- where the rows of P and of Q facts begin
+    pub p-begins : pFrom s (i / s .k) (i % s .k) ≡ s .p + i * s .k
+    p-begins = ap (λ j. s .p + j * s .k) (div-add-mod' i (s .k))
+
+    pub q-begins : qFrom s (i / s .k) (i % s .k) ≡ s .q + i * (s .f * s .k)
+    q-begins = ap (λ j. s .q + j * (s .f * s .k)) (div-add-mod' i (s .k))
+
+    pub p-room : s .p + i * s .k + s .k ≤ s .q
+    p-room = omega (arith, p-begins, p-row h row-thread row-pair)
+
+    pub q-room : s .q + i * (s .f * s .k) + s .f * s .k ≤ s .w
+    q-room = omega (arith, q-begins, q-rows h row-thread row-pair)
+
+-- a use on the row of t and a
+pub row-of : (A : ℕ → ℕ → Uses) {n k t a q x y : ℕ} → t < n → a < k → A t a q x y → Upto (λ i. A (i / k) (i % k)) (n * k) q x y
+row-of A {n} {k} {t} {a} {q} {x} {y} th ah u =
+    record {
+      k = t * k + a;
+      lt = digits-lt th ah;
+      given = subst (λ j. A j ((t * k + a) % k) q x y) (sym (digits-div t ah)) (subst (λ j. A t j q x y) (sym (digits-mod t ah)) u);
+    }
