@@ -15,7 +15,7 @@ use Rattle.numbers.specs.declared.refusals.Refusal.{Refusal}
 use Rattle.numbers.specs.Reading.{Out, got, bad, fieldAt, versionAt}
 use Rattle.numbers.proofs.ReadingLaws.{never, parts}
 use Rattle.numbers.proofs.FieldLaws.{field-got}
-use Rattle.lists.specs.Rows.{push}
+use Rattle.cells.specs.Rows.{push}
 use Rattle.claim_files.specs.ClaimFile.{countAt, positionAt, positionsAt, AscendingFrom}
 
 -- ---- the count

@@ -11,7 +11,7 @@ use Rattle.numbers.specs.declared.refusals.Refusal.{Refusal}
 use Rattle.numbers.specs.Reading.{Out, got, bad}
 use Rattle.numbers.proofs.ReadingLaws.{never}
 use Rattle.reader.specs.declared.ends.End.the-variants.{Past, Refused}
-use Rattle.lists.specs.Rows.{push}
+use Rattle.cells.specs.Rows.{push}
 use Rattle.reader.specs.Ends.{endOf}
 use Rattle.store.specs.Marking.{room, marked}
 use Rattle.store.proofs.MarkLaws.{put-room}

@@ -26,7 +26,7 @@ use Rattle.numbers.proofs.FieldLaws.{field-in}
 use Rattle.numbers.proofs.VersionLaws.{version-one, version-got}
 use Rattle.numbers.proofs.RoundTrip.{Stands, sets-stand, stands-read, Bytes, put-read}
 use Rattle.files.specs.Table.{mostFacts}
-use Rattle.lists.proofs.RowMemory.{sets-whole}
+use Rattle.cells.proofs.RowMemory.{sets-whole}
 use Rattle.claim_files.specs.ClaimFile.{
   countAt,
   positionsAt,

@@ -6,7 +6,7 @@ use mathlib.Core.List.{List, [], _∷_, flatMap}
 use lib.ListN.{length}
 use Rattle.numbers.specs.Reading.{Out, got, then, fieldAt, versionAt}
 use Rattle.numbers.specs.Writing.{bytesOf}
-use Rattle.lists.specs.Rows.{push}
+use Rattle.cells.specs.Rows.{push}
 use Rattle.reader.specs.Ends.{atEnd}
 
 -- ---- reading, the first fault wins

@@ -10,7 +10,8 @@ use Rattle.numbers.specs.Refusals.{toldOf}
 use Rattle.numbers.specs.Reading.{Out, got, bad, groupsAt, numberAt, fieldAt, versionAt}
 use Rattle.files.specs.Table.{Table, W}
 use Rattle.lists.specs.Order.{below}
-use Rattle.lists.specs.Rows.{cellAt, rowAt, nextRow, rowsAt, listAt}
+use Rattle.cells.specs.Rows.{cellAt, rowAt}
+use Rattle.lists.specs.Lists.{nextRow, rowsAt, listAt}
 use Rattle.files.specs.Header.{headerAt}
 use Rattle.files.specs.File.{tableAt}
 

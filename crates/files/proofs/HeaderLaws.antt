@@ -7,16 +7,16 @@ use mathlib.Core.List.{List}
 use Prim.Native.Nat.{ℕ}
 use Rattle.numbers.specs.declared.refusals.Refusal.{Refusal}
 use Rattle.numbers.specs.Reading.{Out, got, bad, then, versionAt}
-use Rattle.lists.specs.declared.columns.Column.{Column}
-use Rattle.lists.specs.declared.columns.Sizes.{Sizes}
+use Rattle.cells.specs.declared.columns.Column.{Column}
+use Rattle.cells.specs.declared.columns.Sizes.{Sizes}
 use Rattle.files.specs.declared.header.Header.{Header}
 use Rattle.files.specs.declared.header.HeaderRead.{HeaderRead}
 use Rattle.reader.specs.declared.ends.End.{End}
 use Rattle.reader.specs.declared.ends.End.the-variants.{Past, Refused}
-use Rattle.lists.specs.declared.rows.RowRead.{RowRead}
-use Rattle.lists.specs.Rows.{rowAt}
+use Rattle.cells.specs.declared.row.RowRead.{RowRead}
+use Rattle.cells.specs.Rows.{rowAt}
 use Rattle.files.specs.Header.{sizeColumns, placeColumns, localColumns, sizesOf, headerOf, headerAt, noHeader, headerReadOf}
-use Rattle.lists.specs.Answers.{rowOf}
+use Rattle.cells.specs.Answers.{rowOf}
 use Rattle.reader.specs.Ends.{endOf, after}
 
 -- the answer of three rows' cells and the last one's end

@@ -8,14 +8,14 @@ use Prim.Native.Nat.{ℕ, zero, suc, _≤_}
 use native.Mathlib.Omega.{arith}
 use borrow.Author.Tests.{le-ltb}
 use lib.ListN.{length, getD, take}
-use Rattle.lists.specs.declared.columns.Column.{Column}
-use Rattle.lists.specs.declared.columns.Sizes.{Sizes}
+use Rattle.cells.specs.declared.columns.Column.{Column}
+use Rattle.cells.specs.declared.columns.Sizes.{Sizes}
 use Rattle.lists.specs.Order.{Above, none, row}
 use Rattle.files.specs.Table.{Rows, stepCells, pushCells, popCells, errorCells}
-use Rattle.lists.specs.Columns.{ofThread, stepColumns, pushColumns, popColumns, errorColumns}
+use Rattle.cells.specs.Columns.{ofThread, stepColumns, pushColumns, popColumns, errorColumns}
 use Rattle.files.specs.File.{stepOf, pushOf, popOf, errorOf}
-use Rattle.lists.proofs.RowMemory.{five-cells}
-use Rattle.lists.proofs.RowFits.{CellFits, RowFits, cell, none as end, fits-long}
+use Rattle.cells.proofs.RowMemory.{five-cells}
+use Rattle.cells.proofs.RowFits.{CellFits, RowFits, cell, none as end, fits-long}
 use Rattle.lists.proofs.ListFits.{Good, last, more}
 
 -- ---- a row's record gives its cells back

@@ -17,15 +17,16 @@ use lib.Dec.{ltb}
 use Rattle.numbers.specs.declared.refusals.Refusal.the-variants.{After}
 use Rattle.numbers.specs.Reading.{got, bad, pick, versionAt}
 use Rattle.numbers.proofs.ReadingLaws.{never, parts}
-use Rattle.lists.specs.declared.columns.Column.{Column}
+use Rattle.cells.specs.declared.columns.Column.{Column}
 use Rattle.files.specs.declared.header.Header.{Header}
 use Rattle.files.specs.Table.{Table, Sound, StepFits, PushFits, PopFits, ErrorFits, stepCells, pushCells, popCells, errorCells}
 use Rattle.files.specs.Table.{mostThreads, mostShared, mostLocals, mostFrames, mostSteps, mostPushes, mostPops, mostErrors}
-use Rattle.lists.specs.Columns.{ofThread, stepColumns, pushColumns, popColumns, errorColumns}
-use Rattle.lists.specs.Rows.{rowAt, listAt, flat}
+use Rattle.cells.specs.Columns.{ofThread, stepColumns, pushColumns, popColumns, errorColumns}
+use Rattle.cells.specs.Rows.{rowAt}
+use Rattle.lists.specs.Lists.{listAt, flat}
 use Rattle.files.specs.Header.{sizeColumns, placeColumns, localColumns, sizesOf, fourOf, headerOf, headerAt}
 use Rattle.files.specs.File.{stepOf, pushOf, popOf, errorOf, tableOf, tableAt, headerIn}
-use Rattle.lists.proofs.RowFits.{CellFits, RowFits, cell, none, row-fits}
+use Rattle.cells.proofs.RowFits.{CellFits, RowFits, cell, none, row-fits}
 use Rattle.lists.proofs.ListFits.{Good, list-good}
 use Rattle.files.proofs.RowKinds.{step-back, push-back, pop-back, error-back, no-thread, take-cell, rows-sound}
 

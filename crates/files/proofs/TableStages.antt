@@ -10,17 +10,17 @@ use lib.ListN.{length, replicate, length-replicate}
 use lib.Seq.{sets, length-sets}
 use Rattle.numbers.specs.declared.refusals.Refusal.{Refusal}
 use Rattle.numbers.specs.Reading.{Out, got, bad, then}
-use Rattle.lists.specs.declared.columns.Column.{Column}
+use Rattle.cells.specs.declared.columns.Column.{Column}
 use Rattle.files.specs.declared.header.Header.{Header}
 use Rattle.files.specs.declared.header.HeaderRead.{HeaderRead}
 use Rattle.reader.specs.declared.ends.End.{End}
 use Rattle.reader.specs.declared.ends.End.the-variants.{Past, Refused}
-use Rattle.lists.specs.declared.rows.ListRead.{ListRead}
+use Rattle.lists.specs.declared.list.ListRead.{ListRead}
 use Rattle.files.specs.declared.table.Outcome.the-variants as outcome
 use Rattle.files.specs.declared.table.TableRead.{TableRead}
 use Rattle.files.specs.Table.{Table, stepCells, pushCells, popCells, errorCells, mostSteps, mostPushes, mostPops, mostErrors}
-use Rattle.lists.specs.Columns.{stepColumns, pushColumns, popColumns, errorColumns}
-use Rattle.lists.specs.Rows.{listAt, flat}
+use Rattle.cells.specs.Columns.{stepColumns, pushColumns, popColumns, errorColumns}
+use Rattle.lists.specs.Lists.{listAt, flat}
 use Rattle.files.specs.Header.{headerAt, headerReadOf}
 use Rattle.files.specs.File.{stepOf, pushOf, popOf, errorOf, tableOf, tableAt, headerIn, tableReadOf, TableIs}
 use Rattle.lists.specs.ListAnswers.{listOf, listAfter, listHeld}

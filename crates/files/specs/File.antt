@@ -12,8 +12,8 @@ use Rattle.files.specs.declared.table.Outcome.the-variants.{Accepted, Re
 use Rattle.files.specs.declared.table.TableRead.{TableRead}
 use Rattle.files.specs.Table.{Table, Step, Push, Pop, Error, stepCells, pushCells, popCells, errorCells}
 use Rattle.files.specs.Table.{mostSteps, mostPushes, mostPops, mostErrors}
-use Rattle.lists.specs.Columns.{stepColumns, pushColumns, popColumns, errorColumns}
-use Rattle.lists.specs.Rows.{listAt, flat}
+use Rattle.cells.specs.Columns.{stepColumns, pushColumns, popColumns, errorColumns}
+use Rattle.lists.specs.Lists.{listAt, flat}
 use Rattle.files.specs.Header.{headerOf, headerAt, noHeader}
 
 -- ---- the table of a header and four lists of rows

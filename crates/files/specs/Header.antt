@@ -3,14 +3,14 @@ use Prim.Native.Nat.{ℕ}
 use mathlib.Core.List.{List, [], _∷_}
 use lib.ListN.{getD}
 use Rattle.numbers.specs.Reading.{Out, got, bad, then, versionAt}
-use Rattle.lists.specs.declared.columns.Column.{Column}
-use Rattle.lists.specs.declared.columns.Column.the-variants.{Within, Below, Absent}
-use Rattle.lists.specs.declared.columns.Sizes.{Sizes}
+use Rattle.cells.specs.declared.columns.Column.{Column}
+use Rattle.cells.specs.declared.columns.Column.the-variants.{Within, Below, Absent}
+use Rattle.cells.specs.declared.columns.Sizes.{Sizes}
 use Rattle.files.specs.declared.header.Header.{Header}
 use Rattle.files.specs.declared.header.HeaderRead.{HeaderRead}
 use Rattle.reader.specs.declared.ends.End.the-variants.{Past, Refused}
-use Rattle.lists.specs.Columns.{perThread}
-use Rattle.lists.specs.Rows.{rowAt}
+use Rattle.cells.specs.Columns.{perThread}
+use Rattle.cells.specs.Rows.{rowAt}
 use Rattle.files.specs.Table.{mostThreads, mostShared, mostLocals, mostFrames}
 
 -- ---- the columns of its three parts

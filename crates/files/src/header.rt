@@ -4,10 +4,10 @@ ghost use Rattle.numbers.specs.Reading.{versionAt};
 ghost use Rattle.files.specs.Table.{room};
 ghost use Rattle.reader.specs.Ends.{endOf};
 ghost use Rattle.files.specs.Header.{sizeColumns, placeColumns, localColumns, headerAt, headerReadOf, sizesOf, noHeader};
-use lists::columns::Column;
-use lists::columns::Sizes;
-use lists::columns::of_thread;
-use lists::rows::row_after;
+use cells::columns::Column;
+use cells::columns::Sizes;
+use cells::columns::of_thread;
+use cells::row::row_after;
 use numbers::reading::Read;
 use reader::ends::End;
 

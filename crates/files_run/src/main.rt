@@ -2,13 +2,13 @@
 // on tables at the limits of document 01. Each file gets a line that says what comes back.
 ghost use Prim.Native.Nat.{_+_, _≤_};
 ghost use lib.ListN.{length};
+use cells::columns::Sizes;
 use files::header::Header;
 use files::header::room_of;
 use files::table::Counts;
 use files::table::Outcome;
 use files::table::read_table;
 use libc::STDOUT_FILENO;
-use lists::columns::Sizes;
 use numbers::refusals::Refusal;
 use numbers::refusals::tell;
 use numbers::writing::put_number;

@@ -10,10 +10,10 @@ use lib.ListN.{length}
 use Rattle.numbers.specs.Reading.{got, fieldAt}
 use Rattle.numbers.proofs.ReadingLaws.{parts}
 use Rattle.numbers.proofs.FieldLaws.{field-got}
-use Rattle.lists.specs.declared.columns.Column.{Column}
+use Rattle.cells.specs.declared.columns.Column.{Column}
 use Rattle.lists.specs.Order.{below}
-use Rattle.lists.specs.Rows.{nextRow, rowsAt, listAt}
-use Rattle.lists.proofs.RowFits.{RowFits, row-fits, pushed}
+use Rattle.lists.specs.Lists.{nextRow, rowsAt, listAt}
+use Rattle.cells.proofs.RowFits.{RowFits, row-fits, pushed}
 use Rattle.lists.proofs.ListLaws.{next-got}
 
 -- each row fits its columns, and is above the one before

@@ -16,16 +16,17 @@ use Rattle.numbers.specs.declared.refusals.Refusal.{Refusal}
 use Rattle.numbers.specs.declared.refusals.Refusal.the-variants.{NotAbove}
 use Rattle.numbers.specs.Reading.{got, bad, pick, fieldAt}
 use Rattle.numbers.proofs.ReadingLaws.{never, parts}
-use Rattle.lists.specs.declared.columns.Column.{Column}
+use Rattle.cells.specs.declared.columns.Column.{Column}
 use Rattle.reader.specs.declared.ends.End.the-variants.{Past}
-use Rattle.lists.specs.declared.rows.ListRead.{ListRead}
+use Rattle.lists.specs.declared.list.ListRead.{ListRead}
 use Rattle.lists.specs.Order.{below}
-use Rattle.lists.specs.Rows.{push, rowAt, nextRow, rowsAt, listAt, flat}
+use Rattle.cells.specs.Rows.{push, rowAt}
+use Rattle.lists.specs.Lists.{nextRow, rowsAt, listAt, flat}
 use Rattle.lists.specs.ListAnswers.{listOf}
 use Rattle.lists.specs.Stages.{oldOf, ListKept}
 use Rattle.numbers.proofs.PutLaws.{sets-append}
-use Rattle.lists.proofs.RowLaws.{onward, onward-none, onward-push}
-use Rattle.lists.proofs.RowFits.{row-long}
+use Rattle.cells.proofs.RowLaws.{onward, onward-none, onward-push}
+use Rattle.cells.proofs.RowFits.{row-long}
 
 -- ---- the next row
 

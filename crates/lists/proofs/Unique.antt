@@ -7,41 +7,11 @@ use denote.Ref.{now}
 use denote.Triple.Clauses.{AtExit}
 use borrow.Fn.Kinds.{Dens, resT, endedOf}
 use Rattle.numbers.proofs.Unique.{same, Fixes}
-use Rattle.lists.specs.declared.rows.ListRead.{ListRead}
-use Rattle.lists.proofs.columns.of_thread.Reads as of-thread
-use Rattle.lists.proofs.columns.of_thread.Kinds as of-thread-kinds
-use Rattle.lists.proofs.columns.step_columns.Reads as step-columns
-use Rattle.lists.proofs.columns.step_columns.Kinds as step-columns-kinds
-use Rattle.lists.proofs.columns.push_columns.Reads as push-columns
-use Rattle.lists.proofs.columns.push_columns.Kinds as push-columns-kinds
-use Rattle.lists.proofs.columns.pop_columns.Reads as pop-columns
-use Rattle.lists.proofs.columns.pop_columns.Kinds as pop-columns-kinds
-use Rattle.lists.proofs.columns.error_columns.Reads as error-columns
-use Rattle.lists.proofs.columns.error_columns.Kinds as error-columns-kinds
-use Rattle.lists.proofs.rows.row_after.Reads as row-after
-use Rattle.lists.proofs.rows.row_after.Kinds as row-after-kinds
-use Rattle.lists.proofs.rows.wipe.Reads as wipe
-use Rattle.lists.proofs.rows.wipe.Kinds as wipe-kinds
-use Rattle.lists.proofs.rows.list_after.Reads as list-after
-use Rattle.lists.proofs.rows.list_after.Kinds as list-after-kinds
-
-pub of-thread-fixes : Fixes of-thread-kinds.ps of-thread-kinds.r of-thread.Post
-of-thread-fixes κs a x x′ s s′ = same
-
-pub step-columns-fixes : Fixes step-columns-kinds.ps step-columns-kinds.r step-columns.Post
-step-columns-fixes κs a x x′ s s′ = same
-
-pub push-columns-fixes : Fixes push-columns-kinds.ps push-columns-kinds.r push-columns.Post
-push-columns-fixes κs a x x′ s s′ = same
-
-pub pop-columns-fixes : Fixes pop-columns-kinds.ps pop-columns-kinds.r pop-columns.Post
-pop-columns-fixes κs a x x′ s s′ = same
-
-pub error-columns-fixes : Fixes error-columns-kinds.ps error-columns-kinds.r error-columns.Post
-error-columns-fixes κs a x x′ s s′ = same
-
-pub row-after-fixes : Fixes row-after-kinds.ps row-after-kinds.r row-after.Post
-row-after-fixes κs a x x′ s s′ = same
+use Rattle.lists.specs.declared.list.ListRead.{ListRead}
+use Rattle.lists.proofs.list.wipe.Reads as wipe
+use Rattle.lists.proofs.list.wipe.Kinds as wipe-kinds
+use Rattle.lists.proofs.list.list_after.Reads as list-after
+use Rattle.lists.proofs.list.list_after.Kinds as list-after-kinds
 
 -- every byte of the memory
 pub wipe-fixes : (κs : Lfts 1) (a : Dens κs wipe-kinds.ps) (x x′ : resT wipe-kinds.r κs .Denot)

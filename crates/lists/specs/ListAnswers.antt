@@ -8,9 +8,9 @@ use Rattle.numbers.specs.Reading.{Out, got, bad}
 use Rattle.reader.specs.declared.ends.End.{End}
 use Rattle.reader.specs.declared.ends.End.the-variants.{Past, Refused}
 use Rattle.reader.specs.Ends.{after}
-use Rattle.lists.specs.declared.columns.Column.{Column}
-use Rattle.lists.specs.declared.rows.ListRead.{ListRead}
-use Rattle.lists.specs.Rows.{listAt, flat}
+use Rattle.cells.specs.declared.columns.Column.{Column}
+use Rattle.lists.specs.declared.list.ListRead.{ListRead}
+use Rattle.lists.specs.Lists.{listAt, flat}
 
 abbrev pub listOf : Out (List (List ℕ)) → ListRead
 listOf (got rs next) = record { count = length rs; end = Past next }

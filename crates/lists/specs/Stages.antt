@@ -1,17 +1,11 @@
--- What the private functions answer: a cell, the row before, a memory while its list is read. Only their contracts cite this file.
+-- What the private functions answer: the row before, a memory while its list is read. Only their contracts cite this file.
 use Prim.Native.Nat.{ℕ, zero, suc}
 use mathlib.Core.Path.{_≡_}
 use mathlib.Core.List.{List, []}
 use lib.ListN.{length}
 use lib.Seq.{sets}
 use Rattle.numbers.specs.Reading.{Out, got, bad}
-use Rattle.lists.specs.declared.rows.CellRead.{CellRead}
-use Rattle.lists.specs.declared.rows.CellRead.the-variants as cell
-use Rattle.lists.specs.Rows.{flat}
-
-abbrev pub cellOf : Out ℕ → CellRead
-cellOf (got v next) = cell.Value v next
-cellOf (bad r) = cell.Refused r
+use Rattle.lists.specs.Lists.{flat}
 
 -- the row before row i; before row 0 there is none
 abbrev pub oldOf : ℕ → List ℕ → List ℕ

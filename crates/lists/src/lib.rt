@@ -1,3 +1,2 @@
-// Lists of rows: the columns of a row with their ranges, and one reader for cells, rows and lists (document 01, "The table, in file order").
-pub mod columns;
-pub mod rows;
+// Lists of rows, each above the one before (document 01, "The table, in file order").
+pub mod list;

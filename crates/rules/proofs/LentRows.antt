@@ -15,7 +15,7 @@ use Rattle.files.specs.declared.header.Header.{Header}
 use Rattle.files.specs.declared.table.Counts.{Counts}
 use Rattle.files.specs.Table.{Table, Sound, Rows, stepCells, pushCells, popCells, errorCells, mostErrors, room, W}
 use Rattle.files.specs.Header.{fourOf}
-use Rattle.lists.specs.Rows.{flat}
+use Rattle.lists.specs.Lists.{flat}
 use Rattle.files.proofs.TableLaws.{cell-stands}
 use Rattle.store.specs.declared.plan.Plan.{Plan}
 use Rattle.store.specs.declared.rows.Row.{Row}

@@ -70,7 +70,7 @@ pub fn put_mark(mem: &mut [u8], p: usize)
 pub fn clear(mem: &mut [u8])
     ensures { λ _. ⌜ now (mem .exit) ≡ replicate (length (now (mem .entry))) 0 ⌝ }
 {
-    lists::rows::wipe(mem);
+    lists::list::wipe(mem);
 }
 
 // Takes the first w marks off, and leaves the others as they are.

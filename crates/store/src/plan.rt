@@ -2,7 +2,7 @@
 ghost use mathlib.Core.Path.{_≡_};
 ghost use Prim.Native.Nat.{_+_, _*_, _<_, _≤_};
 ghost use Rattle.store.specs.Plans.{Planned, pair, pAt, pFrom, qFrom, gAt, sized};
-use lists::columns::Sizes;
+use cells::columns::Sizes;
 
 // W of the largest table that the limits allow: no table has more facts.
 pub const MOST_FACTS: usize = 2360320;

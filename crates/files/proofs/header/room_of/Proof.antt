@@ -3,7 +3,7 @@
 use Prim.Native.Nat.{_+_, _*_, _≤_}
 use native.Mathlib.Omega.{arith}
 use borrow.Author.Needs.{needs}
-use Rattle.lists.specs.declared.columns.Sizes.{Sizes}
+use Rattle.cells.specs.declared.columns.Sizes.{Sizes}
 use Rattle.files.specs.Table.{room}
 use Rattle.files.proofs.RoomLaws.{square-small, threads-small, frames-small, room-small}
 use Rattle.files.proofs.header.room_of.Statement.{statement}

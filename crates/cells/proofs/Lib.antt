@@ -1,0 +1,11 @@
+-- The laws of a row, from the bottom up:
+--   RowMemory     five bytes a row; runs of stores; a wiped memory
+--   RowLaws       cells and rows, and the loop that reads a row
+--   RowFits       a row that was read fits its columns
+--   StageLaws     what the answer of reading a row tells
+--   Unique        two results that a contract allows are equal
+pub mod RowMemory
+pub mod RowLaws
+pub mod RowFits
+pub mod StageLaws
+pub mod Unique

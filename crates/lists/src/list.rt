@@ -1,0 +1,178 @@
+// Lists of rows: one reader for the four lists.
+ghost use mathlib.Core.Path.{_≡_};
+ghost use mathlib.Core.List.{[]};
+ghost use Prim.Native.Nat.{_+_, _*_, _≤_};
+ghost use lib.ListN.{length, replicate};
+ghost use lib.Seq.{sets};
+ghost use Rattle.numbers.specs.Reading.{bad};
+ghost use Rattle.cells.specs.Answers.{rowOf};
+ghost use Rattle.lists.specs.Order.{below};
+ghost use Rattle.lists.specs.Lists.{nextRow, rowsAt, listAt};
+ghost use Rattle.lists.specs.ListAnswers.{listOf, listAfter, listHeld};
+ghost use Rattle.lists.specs.Stages.{oldOf, ListKept};
+use cells::columns::Column;
+use cells::row::RowRead;
+use cells::row::no_row;
+use cells::row::row;
+use numbers::reading::Read;
+use numbers::refusals::Refusal;
+use reader::ends::End;
+
+// How many rows a list has, 0 where it is refused.
+pub struct ListRead {
+    pub count: usize,
+    pub end: End,
+}
+
+// A list that is refused.
+fn no_list(refusal: Refusal) -> ListRead
+    ensures { λ r. ⌜ r ≡ listOf (bad refusal) ⌝ }
+{
+    ListRead {
+        count: 0,
+        end: End::Refused { refusal },
+    }
+}
+
+// A row is above the one before, `old`.
+fn above(old: [u8; 5], new: [u8; 5]) -> bool
+    ensures { λ r. ⌜ r ≡ below old new ⌝ }
+{
+    let mut j = 0;
+    while j < 5 {
+        let a = old[j];
+        let b = new[j];
+        if a < b {
+            return true;
+        }
+        if b < a {
+            return false;
+        }
+        j += 1;
+    }
+    false
+}
+
+// Row i, which is to be above the one before it, `old`; row 0 has none before it.
+fn next_row(src: &[u8], at: usize, columns: [Column; 5], i: usize, old: [u8; 5]) -> RowRead
+    ensures { λ r. ⌜ r ≡ rowOf (nextRow (oldOf i old) columns (now (src .entry)) at) ⌝ }
+{
+    let read = row(src, at, columns);
+    let cells = read.cells;
+    let end = read.end;
+    match end {
+        End::Past { next } => {
+            if i == 0 {
+                return RowRead {
+                    cells,
+                    end: End::Past { next },
+                };
+            }
+            if above(old, cells) {
+                return RowRead {
+                    cells,
+                    end: End::Past { next },
+                };
+            }
+            no_row(Refusal::NotAbove { at })
+        }
+        End::Refused { refusal } => no_row(refusal),
+    }
+}
+
+// Five cells into dst from `base` on.
+fn store(dst: &mut [u8], base: usize, cells: [u8; 5])
+    requires { ⌜ base + 5 ≤ length (now dst) ⌝ }
+    ensures { λ _. ⌜ now (dst .exit) ≡ sets (now (dst .entry)) base cells ⌝ }
+{
+    dst[base] = cells[0];
+    dst[base + 1] = cells[1];
+    dst[base + 2] = cells[2];
+    dst[base + 3] = cells[3];
+    dst[base + 4] = cells[4];
+}
+
+// `count` rows from `at` on, each above the one before, into dst, five bytes a row.
+fn rows(src: &[u8], at: usize, count: usize, columns: [Column; 5], dst: &mut [u8]) -> ListRead
+    requires { ⌜ 5 * count ≤ length (now dst) ⌝ }
+    ensures { λ r. ⌜ (r ≡ listOf (rowsAt count [] columns (now (src .entry)) at))
+        × ListKept (rowsAt count [] columns (now (src .entry)) at) (now (dst .entry)) (now (dst .exit)) ⌝ }
+{
+    let mut old = [0u8; 5];
+    let mut p = at;
+    let mut i = 0;
+    while i < count {
+        let read = next_row(src, p, columns, i, old);
+        let cells = read.cells;
+        let end = read.end;
+        match end {
+            End::Past { next } => {
+                store(dst, 5 * i, cells);
+                old = cells;
+                p = next;
+            }
+            End::Refused { refusal } => {
+                return no_list(refusal);
+            }
+        }
+        i += 1;
+    }
+    ListRead {
+        count,
+        end: End::Past { next: p },
+    }
+}
+
+// The list of at most `most` rows at `at`: the count, then the rows.
+fn list(src: &[u8], at: usize, most: u32, columns: [Column; 5], dst: &mut [u8]) -> ListRead
+    requires { ⌜ (most ≤ 1024) × (5 * most ≤ length (now dst)) ⌝ }
+    ensures { λ r. ⌜ (r ≡ listOf (listAt most columns (now (src .entry)) at))
+        × ListKept (listAt most columns (now (src .entry)) at) (now (dst .entry)) (now (dst .exit)) ⌝ }
+{
+    match reader::fields::field(src, at, 0, most + 1) {
+        Read::Value { value, next } => rows(src, next, value as usize, columns, dst),
+        Read::Refused { refusal } => no_list(refusal),
+    }
+}
+
+// Zeros in every byte.
+pub fn wipe(dst: &mut [u8])
+    ensures { λ _. ⌜ now (dst .exit) ≡ replicate (length (now (dst .entry))) 0 ⌝ }
+{
+    let mut i = 0;
+    while i < dst.len() {
+        dst[i] = 0;
+        i += 1;
+    }
+}
+
+// The list after a part of the file: where that was refused, so is the list. Beside a refusal dst is all 0.
+pub fn list_after(
+    src: &[u8],
+    before: End,
+    most: u32,
+    columns: [Column; 5],
+    dst: &mut [u8],
+) -> ListRead
+    requires { ⌜ (most ≤ 1024) × (5 * most ≤ length (now dst)) ⌝ }
+    ensures { λ r. ⌜ (r ≡ listOf (listAfter before most columns (now (src .entry))))
+        × (now (dst .exit) ≡ listHeld (listAfter before most columns (now (src .entry))) (now (dst .entry))) ⌝ }
+{
+    match before {
+        End::Past { next } => {
+            let read = list(src, next, most, columns, dst);
+            let end = read.end;
+            match end {
+                End::Past { next: _ } => read,
+                End::Refused { refusal } => {
+                    wipe(dst);
+                    no_list(refusal)
+                }
+            }
+        }
+        End::Refused { refusal } => {
+            wipe(dst);
+            no_list(refusal)
+        }
+    }
+}
