@@ -8,7 +8,7 @@ use claim_checking::check::check_claim;
 use claim_report::checked::checked_line;
 use libc::STDERR_FILENO;
 use libc::STDOUT_FILENO;
-use store::plan::MOST_FACTS;
+use positions::plan::MOST_FACTS;
 use text::lines::ROOM;
 
 // Working memory for any table. The `ensures` gives its length, which lending it asks.

@@ -16,7 +16,7 @@ use Rattle.files.specs.Table.{Table, W}
 use Rattle.model.specs.Positions.{factAt}
 use Rattle.model.specs.Memory.{Says, Holds, Marked}
 use Rattle.model.specs.Claims.{Claimed, Finds}
-use Rattle.store.specs.Marking.{Cleared}
+use Rattle.store.specs.Clearing.{Cleared}
 use Rattle.rules.specs.Lent.{Stored}
 use Rattle.claim_files.specs.declared.reading.Claimed.the-variants as reader
 use Rattle.claim_files.specs.ClaimFile.{claimAt}

@@ -10,7 +10,7 @@ use Rattle.files.specs.Table.{Table, W}
 use Rattle.files.specs.File.{tableAt}
 use Rattle.model.specs.Memory.{Holds}
 use Rattle.model.specs.Claims.{Claimed, Finding, Finds, accepted, lacks-start, not-closed, allows-error}
-use Rattle.store.specs.Marking.{Cleared}
+use Rattle.store.specs.Clearing.{Cleared}
 use Rattle.claim_files.specs.ClaimFile.{claimAt}
 use Rattle.claim_checking.specs.declared.answer.ClaimAnswer.{ClaimAnswer}
 use Rattle.claim_checking.specs.declared.answer.ClaimAnswer.the-variants.{

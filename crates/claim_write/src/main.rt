@@ -12,7 +12,7 @@ use claim_writing::answer::WriteAnswer;
 use claim_writing::write::write_claim;
 use libc::STDERR_FILENO;
 use libc::STDOUT_FILENO;
-use store::plan::MOST_FACTS;
+use positions::plan::MOST_FACTS;
 use text::lines::ROOM;
 
 // Working memory for any table. The `ensures` gives its length, which lending it asks.

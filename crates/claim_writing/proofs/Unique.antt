@@ -15,7 +15,7 @@ use borrow.Fn.Kinds.{Dens, endedOf}
 use Rattle.numbers.specs.declared.refusals.Refusal.{Refusal}
 use Rattle.numbers.proofs.Unique.{same, Fixes}
 use Rattle.files.specs.Table.{Table, W}
-use Rattle.store.specs.Marking.{Cleared}
+use Rattle.store.specs.Clearing.{Cleared}
 use Rattle.store.proofs.Unique.{cleared-unique}
 use Rattle.verdict.specs.declared.search.Verdict.{Verdict}
 use Rattle.rules.specs.declared.answer.Answer.{Answer}

@@ -11,7 +11,7 @@ use Rattle.files.specs.Table.{room, W, mostFacts}
 use Rattle.files.specs.Header.{headerAt, headerReadOf}
 use Rattle.files.proofs.RoomLaws.{W-max}
 use Rattle.files.proofs.TableLaws.{table-got}
-use Rattle.store.specs.Marking.{Cleared}
+use Rattle.store.specs.Clearing.{Cleared}
 use Rattle.verdict.specs.declared.search.Verdict.{Verdict}
 use Rattle.rules.specs.declared.answer.Answer.the-variants.{Done}
 use Rattle.rules.specs.Checking.{Checked}

@@ -11,7 +11,7 @@ use Rattle.files.specs.Table.{Table, W}
 use Rattle.files.specs.File.{tableAt}
 use Rattle.model.specs.Rules.{Fact, Derives}
 use Rattle.model.specs.Claims.{Claimed}
-use Rattle.store.specs.Marking.{Cleared}
+use Rattle.store.specs.Clearing.{Cleared}
 use Rattle.verdict.specs.declared.search.Verdict.{Verdict}
 use Rattle.rules.specs.declared.answer.Answer.the-variants as check
 use Rattle.rules.specs.Checking.{Checked}

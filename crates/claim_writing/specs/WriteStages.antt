@@ -7,7 +7,7 @@ use lib.Seq.{sets}
 use Rattle.numbers.specs.Reading.{got}
 use Rattle.files.specs.Table.{Table, W}
 use Rattle.files.specs.File.{tableAt}
-use Rattle.store.specs.Marking.{Cleared}
+use Rattle.store.specs.Clearing.{Cleared}
 use Rattle.verdict.specs.declared.search.Verdict.{Verdict}
 use Rattle.claim_files.specs.ClaimFile.{claimBytes}
 use Rattle.claim_files.specs.Marks.{positionsIn}

@@ -11,7 +11,7 @@ use Rattle.numbers.specs.Refusals.{toldOf}
 use Rattle.numbers.specs.Reading.{got}
 use Rattle.files.specs.Table.{Table, W}
 use Rattle.files.specs.File.{tableAt}
-use Rattle.store.specs.Marking.{Cleared}
+use Rattle.store.specs.Clearing.{Cleared}
 use Rattle.rules.specs.declared.answer.Answer.{Answer}
 use Rattle.rules.specs.Answers.{replyOf}
 use Rattle.rules.specs.Checking as check

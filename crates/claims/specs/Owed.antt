@@ -9,7 +9,7 @@ use lib.ListN.{length}
 use Rattle.numbers.specs.Reading.{got}
 use Rattle.files.specs.Table.{Table, W}
 use Rattle.files.specs.File.{tableAt}
-use Rattle.store.specs.Marking.{Cleared}
+use Rattle.store.specs.Clearing.{Cleared}
 use Rattle.claim_checking.specs.declared.answer.ClaimAnswer.{ClaimAnswer}
 use Rattle.claim_checking.specs.declared.answer.ClaimAnswer.the-variants.{Accepted}
 use Rattle.claim_checking.specs.ClaimChecking.{ClaimChecked}

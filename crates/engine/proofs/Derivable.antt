@@ -18,7 +18,7 @@ use Rattle.model.proofs.InRange.{derives-fits}
 use Rattle.model.proofs.Memory.{relations-held, relations-counted}
 use Rattle.store.specs.declared.rows.RowCounts.{RowCounts}
 use Rattle.store.specs.Marking.{room, Has, marked}
-use Rattle.store.specs.Plans.{planOf}
+use Rattle.positions.specs.Plans.{planOf}
 use Rattle.store.specs.Reading.{Reads}
 use Rattle.store.proofs.MarkLaws.{put-room, has?, has-before, BitsTo, bits-put, total-put, marked-has, has-marked}
 use Rattle.uses.specs.Uses.{Uses, Lacks}

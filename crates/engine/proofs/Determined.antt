@@ -16,9 +16,9 @@ use Rattle.files.specs.Table.{Table, Sound, W}
 use Rattle.model.specs.Memory.{FactCount, Exceeds}
 use Rattle.model.proofs.Memory.{over-budget}
 use Rattle.model.proofs.Unique.{holds-same, fact-count-same, first-same}
-use Rattle.store.specs.declared.plan.Plan.{Plan}
+use Rattle.positions.specs.declared.plan.Plan.{Plan}
 use Rattle.store.specs.Marking.{room}
-use Rattle.store.proofs.PlanIsModel.{w-is}
+use Rattle.positions.proofs.PlanIsModel.{w-is}
 use Rattle.engine.specs.declared.run.Answer.{Answer}
 use Rattle.engine.specs.declared.run.Answer.the-variants.{Done, Over}
 use Rattle.engine.specs.Answers.{Ran, Confirmed, lacking, whole}

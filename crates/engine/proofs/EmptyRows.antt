@@ -6,11 +6,11 @@ use mathlib.Core.Logic.{inl, inr}
 use mathlib.Core.List.{List}
 use Prim.Native.Nat.{ℕ, _+_, _*_, _/_, _%_, _<_}
 use native.Mathlib.Omega.{arith}
-use Rattle.store.specs.declared.plan.Plan.{Plan}
+use Rattle.positions.specs.declared.plan.Plan.{Plan}
 use Rattle.store.specs.declared.rows.RowCounts.{RowCounts}
 use Rattle.store.specs.Marking.{Has, SomeIn}
-use Rattle.store.specs.Plans.{Planned, pFrom, qFrom}
-use Rattle.store.proofs.Places.{q-row}
+use Rattle.positions.specs.Plans.{Planned, pFrom, qFrom}
+use Rattle.positions.proofs.Places.{q-row}
 use Rattle.uses.specs.declared.lines.Pass.{Pass}
 use Rattle.uses.specs.Ranges.{RowsIn}
 use Rattle.uses.specs.Passing.{Swept}

@@ -5,10 +5,10 @@ use mathlib.Core.List.{List}
 use Prim.Native.Nat.{ℕ, _<_}
 use native.Mathlib.Omega.{arith}
 use Rattle.files.specs.Table.{Table, Sound}
-use Rattle.store.specs.declared.plan.Plan.{Plan}
+use Rattle.positions.specs.declared.plan.Plan.{Plan}
 use Rattle.store.specs.declared.rows.RowCounts.{RowCounts}
-use Rattle.store.specs.Plans.{Planned, planOf}
-use Rattle.store.proofs.PlanIsModel.{planned}
+use Rattle.positions.specs.Plans.{Planned, planOf}
+use Rattle.positions.proofs.PlanIsModel.{planned}
 use Rattle.engine.specs.Given.{RowsOf, StartOf}
 use Rattle.engine.specs.InRange.{Given, StartIn}
 

@@ -11,12 +11,12 @@ use Rattle.files.specs.Table.{Table, Sound, W}
 use Rattle.model.specs.Rules.{Starts}
 use Rattle.model.specs.Memory.{Relations, Marked, FactCount, Exceeds}
 use Rattle.model.specs.Claims.{Missing}
-use Rattle.store.specs.declared.plan.Plan.{Plan}
+use Rattle.positions.specs.declared.plan.Plan.{Plan}
 use Rattle.store.specs.declared.rows.RowCounts.{RowCounts}
 use Rattle.store.specs.Marking.{room, Clear}
-use Rattle.store.specs.Plans.{planOf}
+use Rattle.positions.specs.Plans.{planOf}
 use Rattle.store.specs.Reading.{Reads}
-use Rattle.store.proofs.PlanIsModel.{w-is}
+use Rattle.positions.proofs.PlanIsModel.{w-is}
 use Rattle.uses.specs.declared.lines.Pass.{Pass}
 use Rattle.uses.specs.Uses.{Lacks}
 use Rattle.uses.specs.AllUses.{AllUses}

@@ -14,11 +14,11 @@ use Rattle.model.specs.Rules.{start, startFact}
 use Rattle.model.specs.Positions.{Fits, pos}
 use Rattle.model.specs.Memory.{Marked}
 use Rattle.model.proofs.Positions.{pos-lt}
-use Rattle.store.specs.declared.plan.Plan.{Plan}
+use Rattle.positions.specs.declared.plan.Plan.{Plan}
 use Rattle.store.specs.Marking.{room, Has, marked, Clear}
-use Rattle.store.specs.Plans.{planOf}
+use Rattle.positions.specs.Plans.{planOf}
 use Rattle.store.proofs.MarkLaws.{put-room, has-put, has-kept, has-before, clear-none, clear-bits, clear-total, marked-has, has-marked}
-use Rattle.store.proofs.PlanIsModel.{pos-p}
+use Rattle.positions.proofs.PlanIsModel.{pos-p}
 use Rattle.engine.specs.Given.{StartOf}
 use Rattle.engine.specs.StartFacts.{startAt}
 use Rattle.engine.specs.Starting.{begun}

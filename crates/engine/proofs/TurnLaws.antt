@@ -8,10 +8,10 @@ use Prim.Native.Nat.{ℕ, _+_, _*_, _-_, _/_, _%_, _<_, _≤_}
 use native.Mathlib.Nat.{not-suc-le-zero, mul-le-mul-right}
 use native.Mathlib.Decide.{decLt}
 use native.Mathlib.Omega.{arith}
-use Rattle.store.specs.declared.plan.Plan.{Plan}
+use Rattle.positions.specs.declared.plan.Plan.{Plan}
 use Rattle.store.specs.declared.rows.RowCounts.{RowCounts}
 use Rattle.store.specs.Marking.{SomeIn}
-use Rattle.store.specs.Plans.{Planned}
+use Rattle.positions.specs.Plans.{Planned}
 use Rattle.uses.specs.declared.lines.Pass.{Pass}
 use Rattle.engine.specs.declared.turns.Turn.{Turn}
 use Rattle.engine.specs.InRange.{Given}

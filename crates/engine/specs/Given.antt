@@ -5,9 +5,9 @@ use Prim.Native.Nat.{ℕ, _*_, _<_, _≤_}
 use lib.ListN.{getD, length}
 use Rattle.files.specs.Table.{Table, Sound}
 use Rattle.model.specs.Taken.{begins}
-use Rattle.store.specs.declared.plan.Plan.{Plan}
+use Rattle.positions.specs.declared.plan.Plan.{Plan}
 use Rattle.store.specs.declared.rows.RowCounts.{RowCounts}
-use Rattle.store.specs.Plans.{planOf}
+use Rattle.positions.specs.Plans.{planOf}
 use Rattle.store.specs.Reading.{Reads}
 
 -- the plan and the rows are a sound table's

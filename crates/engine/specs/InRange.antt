@@ -3,9 +3,9 @@ use mathlib.Core.List.{List}
 use Prim.Native.Nat.{ℕ, _<_, _≤_}
 use lib.ListN.{getD, length}
 use Rattle.files.specs.Table.{mostSteps}
-use Rattle.store.specs.declared.plan.Plan.{Plan}
+use Rattle.positions.specs.declared.plan.Plan.{Plan}
 use Rattle.store.specs.declared.rows.RowCounts.{RowCounts}
-use Rattle.store.specs.Plans.{Planned}
+use Rattle.positions.specs.Plans.{Planned}
 use Rattle.uses.specs.Ranges.{RowsIn}
 
 -- a step row ends in g′, l′; a push row in l′, f; a pop row in f, l′

@@ -2,8 +2,8 @@
 use mathlib.Core.List.{List}
 use Prim.Native.Nat.{ℕ, _+_, _*_}
 use lib.ListN.{getD}
-use Rattle.store.specs.declared.plan.Plan.{Plan}
-use Rattle.store.specs.Plans.{pair, pAt}
+use Rattle.positions.specs.declared.plan.Plan.{Plan}
+use Rattle.positions.specs.Plans.{pair, pAt}
 
 -- the start fact of t, whose initial stores are g and a number of locals
 abbrev pub startAt : Plan → ℕ → List ℕ → ℕ → ℕ

@@ -1,7 +1,7 @@
 -- The memory with the start facts (01, "The rules", rule 1): one put for each thread.
 use mathlib.Core.List.{List}
 use Prim.Native.Nat.{ℕ, zero, suc}
-use Rattle.store.specs.declared.plan.Plan.{Plan}
+use Rattle.positions.specs.declared.plan.Plan.{Plan}
 use Rattle.store.specs.Marking.{marked}
 use Rattle.engine.specs.StartFacts.{startAt}
 

@@ -1,7 +1,7 @@
 // A pass over every use on Q facts: rules 3, 6 and 7, row of facts by row of facts. A row with no mark is passed over.
 ghost use Prim.Native.Nat.{_*_, _<_, _≤_};
 ghost use Rattle.store.specs.Marking.{room};
-ghost use Rattle.store.specs.Plans.{Planned};
+ghost use Rattle.positions.specs.Plans.{Planned};
 ghost use Rattle.uses.specs.Ranges.{RowsIn};
 ghost use Rattle.uses.specs.Uses.{Upto};
 ghost use Rattle.uses.specs.Passing.{Swept};
@@ -9,9 +9,9 @@ ghost use Rattle.uses.specs.AllUses.{FrameUses, QRow, QRows};
 use passes::calls::calls;
 use passes::guarantees::guarantees;
 use passes::row_rules::rows_of;
+use positions::plan::Plan;
+use positions::plan::q_from;
 use store::marks::some;
-use store::plan::Plan;
-use store::plan::q_from;
 use store::rows::RowCounts;
 use uses::kinds::Kind;
 use uses::lines::Pass;

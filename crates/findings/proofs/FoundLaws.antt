@@ -14,8 +14,8 @@ use Rattle.model.specs.Memory.{Marked}
 use Rattle.model.specs.Claims as model
 use Rattle.model.specs.Claims.{Finds}
 use Rattle.model.proofs.Claims.{none-missing-closed}
-use Rattle.store.specs.declared.plan.Plan.{Plan}
-use Rattle.store.specs.Plans.{planOf}
+use Rattle.positions.specs.declared.plan.Plan.{Plan}
+use Rattle.positions.specs.Plans.{planOf}
 use Rattle.engine.specs.Answers as engine
 use Rattle.engine.specs.Answers.{Confirmed}
 use Rattle.verdict.specs.declared.search.Verdict.{Verdict}

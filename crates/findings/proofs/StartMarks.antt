@@ -9,8 +9,8 @@ use Rattle.files.specs.Table.{Table, Sound}
 use Rattle.model.specs.Rules.{startFact}
 use Rattle.model.specs.Positions.{pos}
 use Rattle.model.specs.Memory.{Marked}
-use Rattle.store.specs.declared.plan.Plan.{Plan}
-use Rattle.store.specs.Plans.{planOf}
+use Rattle.positions.specs.declared.plan.Plan.{Plan}
+use Rattle.positions.specs.Plans.{planOf}
 use Rattle.store.specs.Marking.{Has}
 use Rattle.store.proofs.MarkLaws.{marked-has, has-marked}
 use Rattle.engine.specs.Given.{StartOf}

@@ -11,7 +11,7 @@ use crate::starts::lacking_start;
 use engine::run::missing;
 use files::header::Header;
 use files::table::Counts;
-use store::plan::plan_by;
+use positions::plan::plan_by;
 use store::rows::RowCounts;
 use verdict::search::Verdict;
 use verdict::search::judge;

@@ -3,12 +3,12 @@ ghost use mathlib.Core.Path.{_≡_};
 ghost use Prim.Native.Nat.{_≤_};
 ghost use Rattle.files.specs.Table.{Table, Sound};
 ghost use Rattle.store.specs.Marking.{room};
-ghost use Rattle.store.specs.Plans.{planOf};
+ghost use Rattle.positions.specs.Plans.{planOf};
 ghost use Rattle.engine.specs.Given.{StartOf};
 ghost use Rattle.findings.specs.Found.{Started};
 use engine::run::start_at;
+use positions::plan::Plan;
 use store::marks::has;
-use store::plan::Plan;
 
 // The smallest thread whose start fact has no mark, or the number of threads if each has one.
 pub fn lacking_start(s: Plan, g: usize, locals: &[u8; 4], mem: &[u8]) -> usize

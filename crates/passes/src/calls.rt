@@ -2,13 +2,13 @@
 // that leads from where it ends.
 ghost use Prim.Native.Nat.{_+_, _<_, _≤_};
 ghost use Rattle.store.specs.Marking.{room};
-ghost use Rattle.store.specs.Plans.{Planned};
+ghost use Rattle.positions.specs.Plans.{Planned};
 ghost use Rattle.uses.specs.Uses.{Upto};
 ghost use Rattle.uses.specs.Passing.{Swept};
 ghost use Rattle.uses.specs.RuleUses.{CallUse};
+use positions::plan::Plan;
+use positions::plan::p_from;
 use store::marks::has;
-use store::plan::Plan;
-use store::plan::p_from;
 use uses::lines::Pass;
 use uses::lines::line;
 

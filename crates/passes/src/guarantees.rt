@@ -2,12 +2,12 @@
 // guarantee of another thread moves those that end at its first shared store.
 ghost use Prim.Native.Nat.{_+_, _<_, _≤_};
 ghost use Rattle.store.specs.Marking.{room};
-ghost use Rattle.store.specs.Plans.{Planned};
+ghost use Rattle.positions.specs.Plans.{Planned};
 ghost use Rattle.uses.specs.Uses.{Upto};
 ghost use Rattle.uses.specs.Passing.{Swept};
 ghost use Rattle.uses.specs.RuleUses.{MovedUse};
+use positions::plan::Plan;
 use store::marks::has;
-use store::plan::Plan;
 use uses::lines::Pass;
 use uses::lines::line;
 

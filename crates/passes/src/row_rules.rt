@@ -1,14 +1,14 @@
 // Rules 5 and 7, the rules with a push or a pop row, on the facts of a thread t from a pair a. One loop goes over the rows of a kind.
 ghost use Prim.Native.Nat.{_<_, _≤_};
 ghost use Rattle.store.specs.Marking.{room};
-ghost use Rattle.store.specs.Plans.{Planned};
+ghost use Rattle.positions.specs.Plans.{Planned};
 ghost use Rattle.uses.specs.Ranges.{RowIn, RowsIn};
 ghost use Rattle.uses.specs.Passing.{Swept};
 ghost use Rattle.uses.specs.RuleUses.{PushUse, PopUse, uMost, vMost, KindIn, RowUse, RowUses};
-use store::plan::Plan;
-use store::plan::p_position;
-use store::plan::pair_of;
-use store::plan::q_position;
+use positions::plan::Plan;
+use positions::plan::p_position;
+use positions::plan::pair_of;
+use positions::plan::q_position;
 use store::rows::Row;
 use store::rows::row_at;
 use uses::kinds::Kind;

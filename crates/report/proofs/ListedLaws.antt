@@ -21,10 +21,10 @@ use Rattle.files.specs.Header.{headerAt, headerReadOf}
 use Rattle.files.proofs.TableLaws.{header-fits}
 use Rattle.model.specs.Rules.{Fact}
 use Rattle.model.specs.Positions.{factAt}
-use Rattle.store.specs.declared.plan.Plan.{Plan}
-use Rattle.store.specs.Plans.{planOf}
+use Rattle.positions.specs.declared.plan.Plan.{Plan}
+use Rattle.positions.specs.Plans.{planOf}
 use Rattle.store.specs.Marking.{Has, MarkFrom, NextMark}
-use Rattle.store.proofs.PlanIsModel.{w-is}
+use Rattle.positions.proofs.PlanIsModel.{w-is}
 use Rattle.store.proofs.NextLaws.{next-found, next-end}
 use Rattle.words.specs.Text.{Counts, Written}
 use Rattle.text.specs.Listing.{factLine}

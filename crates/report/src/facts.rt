@@ -1,13 +1,13 @@
 // The lines of the facts, one at a call, in position order.
 ghost use mathlib.Core.Path.{_≡_};
 ghost use Rattle.files.specs.Table.{Table};
-ghost use Rattle.store.specs.Plans.{Planned, planOf};
+ghost use Rattle.positions.specs.Plans.{Planned, planOf};
 ghost use Rattle.report.specs.Listed.{NextIn, MarkedIn, NextOf};
 use files::header::read_header;
+use positions::plan::Plan;
+use positions::plan::plan_by;
 use reader::ends::End;
 use store::marks::next_mark;
-use store::plan::Plan;
-use store::plan::plan_by;
 use text::lines::ROOM;
 use text::lines::fact_line;
 

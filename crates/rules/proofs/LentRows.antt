@@ -17,11 +17,11 @@ use Rattle.files.specs.Table.{Table, Sound, Rows, stepCells, pushCells, popCell
 use Rattle.files.specs.Header.{fourOf}
 use Rattle.lists.specs.Lists.{flat}
 use Rattle.files.proofs.TableLaws.{cell-stands}
-use Rattle.store.specs.declared.plan.Plan.{Plan}
+use Rattle.positions.specs.declared.plan.Plan.{Plan}
 use Rattle.store.specs.declared.rows.Row.{Row}
 use Rattle.store.specs.declared.rows.RowCounts.{RowCounts}
 use Rattle.store.specs.Reading.{rowOf, stepOf, pushOf, popOf, Nth, Same, Reads}
-use Rattle.store.specs.Plans.{sized, planOf}
+use Rattle.positions.specs.Plans.{sized, planOf}
 use Rattle.engine.specs.Given.{RowsOf, StartOf}
 use Rattle.verdict.specs.ErrorRows.{ErrorsOf}
 use Rattle.rules.specs.Lent.{Laid, Stored}

@@ -12,10 +12,10 @@ use Rattle.files.specs.Table.{Table, Sound, W}
 use Rattle.model.specs.Rules.{Fact}
 use Rattle.model.specs.Memory.{Holds, Relations, FactCount, Exceeds}
 use Rattle.store.specs.Marking.{Clear}
-use Rattle.store.specs.declared.plan.Plan.{Plan}
-use Rattle.store.specs.Plans.{planOf}
+use Rattle.positions.specs.declared.plan.Plan.{Plan}
+use Rattle.positions.specs.Plans.{planOf}
 use Rattle.store.proofs.MarkLaws.{clear-zeros}
-use Rattle.store.proofs.PlanIsModel.{w-is}
+use Rattle.positions.proofs.PlanIsModel.{w-is}
 use Rattle.engine.specs.declared.run.Answer.{Answer}
 use Rattle.engine.specs.declared.run.Answer.the-variants as Ends
 use Rattle.engine.specs.Answers.{Ran}

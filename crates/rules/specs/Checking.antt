@@ -9,7 +9,7 @@ use Rattle.files.specs.Table.{Table, Sound, W}
 use Rattle.files.specs.File.{tableAt}
 use Rattle.model.specs.Rules.{Derives}
 use Rattle.model.specs.Memory.{Relations, FactCount, Exceeds}
-use Rattle.store.specs.Marking.{Cleared}
+use Rattle.store.specs.Clearing.{Cleared}
 use Rattle.verdict.specs.declared.search.Verdict.{Verdict}
 use Rattle.verdict.specs.Judged.{Answers}
 use Rattle.rules.specs.declared.answer.Answer.{Answer}

@@ -11,7 +11,7 @@ use crate::answer::Answer;
 use files::header::Header;
 use files::table::Counts;
 use files::table::Outcome;
-use store::plan::Plan;
+use positions::plan::Plan;
 use store::rows::RowCounts;
 
 // The least relations in the first w bytes of a memory.
@@ -56,7 +56,7 @@ fn check_stored(
     if mem.len() < w {
         return Answer::Short { room: w };
     }
-    let s = store::plan::plan_by(sizes);
+    let s = positions::plan::plan_by(sizes);
     let rows = RowCounts {
         steps: counts.steps,
         pushes: counts.pushes,

@@ -5,8 +5,8 @@ use denote.Memory.{pointee}
 use borrow.Fn.Kinds.{PK, RK, pNum, pBool}
 use borrow.Kind.MutSlice.{pMutS}
 use borrow.Kind.ShrSlice.{pShrS}
-use Rattle.store.proofs.plan.Plan as plan
-use Rattle.store.proofs.plan.Plan.Laws as plan-laws
+use Rattle.positions.proofs.plan.Plan as plan
+use Rattle.positions.proofs.plan.Plan.Laws as plan-laws
 use Rattle.store.proofs.rows.Row as row
 use Rattle.store.proofs.rows.Row.Laws as row-laws
 use Rattle.uses.proofs.lines.Pass as pass

@@ -2,14 +2,10 @@
 --   MarkLaws     a mark that was put is there, no other one moves, and how many there are; what model says of marks, said by Has
 --   FoundLaws    what a test over many places gathers
 --   NextLaws     the next mark from a place on
---   Places       positions by a plan are in the memory, and the numbers on the way to them are small
---   PlanIsModel  positions by a table's plan are model's positions, and its w is W
 --   RowLaws      a list of rows, filled from the front
 --   Unique       two results that a contract allows are equal
 pub mod MarkLaws
 pub mod FoundLaws
 pub mod NextLaws
-pub mod Places
-pub mod PlanIsModel
 pub mod RowLaws
 pub mod Unique

@@ -17,7 +17,8 @@ use Rattle.model.specs.Rules.{Fact}
 use Rattle.model.specs.Positions.{Fits, pos}
 use Rattle.model.specs.Memory.{mark, Marked, total}
 use Rattle.model.proofs.Memory.{unmarked}
-use Rattle.store.specs.Marking.{room, Has, marked, Clear, Cleared, Is}
+use Rattle.store.specs.Marking.{room, Has, marked, Clear, Is}
+use Rattle.store.specs.Clearing.{Cleared}
 
 -- ---- the answer of a test
 

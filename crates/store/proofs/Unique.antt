@@ -17,7 +17,8 @@ use borrow.Fn.Kinds.{Dens, resT, endedOf}
 use Rattle.numbers.proofs.Unique.{same, Fixes}
 use Rattle.model.proofs.Unique.{first-same}
 use Rattle.store.specs.declared.rows.Row.{Row}
-use Rattle.store.specs.Marking.{Is, NextMark, here, nowhere, Cleared}
+use Rattle.store.specs.Marking.{Is, NextMark, here, nowhere}
+use Rattle.store.specs.Clearing.{Cleared}
 use Rattle.store.specs.Reading.{zeroRow, nth, Listed}
 use Rattle.store.proofs.marks.has.Reads as has
 use Rattle.store.proofs.marks.has.Kinds as has-kinds
@@ -33,24 +34,6 @@ use Rattle.store.proofs.marks.clear.Reads as clear
 use Rattle.store.proofs.marks.clear.Kinds as clear-kinds
 use Rattle.store.proofs.marks.clear_first.Reads as clear-first
 use Rattle.store.proofs.marks.clear_first.Kinds as clear-first-kinds
-use Rattle.store.proofs.plan.plan_of.Reads as plan-of
-use Rattle.store.proofs.plan.plan_of.Kinds as plan-of-kinds
-use Rattle.store.proofs.plan.plan_by.Reads as plan-by
-use Rattle.store.proofs.plan.plan_by.Kinds as plan-by-kinds
-use Rattle.store.proofs.plan.pair_of.Reads as pair-of
-use Rattle.store.proofs.plan.pair_of.Kinds as pair-of-kinds
-use Rattle.store.proofs.plan.p_at.Reads as p-at
-use Rattle.store.proofs.plan.p_at.Kinds as p-at-kinds
-use Rattle.store.proofs.plan.p_from.Reads as p-from
-use Rattle.store.proofs.plan.p_from.Kinds as p-from-kinds
-use Rattle.store.proofs.plan.q_from.Reads as q-from
-use Rattle.store.proofs.plan.q_from.Kinds as q-from-kinds
-use Rattle.store.proofs.plan.p_position.Reads as p-position
-use Rattle.store.proofs.plan.p_position.Kinds as p-position-kinds
-use Rattle.store.proofs.plan.q_position.Reads as q-position
-use Rattle.store.proofs.plan.q_position.Kinds as q-position-kinds
-use Rattle.store.proofs.plan.g_position.Reads as g-position
-use Rattle.store.proofs.plan.g_position.Kinds as g-position-kinds
 use Rattle.store.proofs.rows.cell.Reads as cell
 use Rattle.store.proofs.rows.cell.Kinds as cell-kinds
 use Rattle.store.proofs.rows.row_at.Reads as row-at
@@ -101,33 +84,6 @@ lacks-fixes κs a x x′ s s′ = is-unique _ x x′
 
 pub next-mark-fixes : Fixes next-mark-kinds.ps next-mark-kinds.r next-mark.Post
 next-mark-fixes κs a x x′ s s′ = next-unique
-
-pub plan-of-fixes : Fixes plan-of-kinds.ps plan-of-kinds.r plan-of.Post
-plan-of-fixes κs a x x′ s s′ p q = same (p .0) (q .0)
-
-pub plan-by-fixes : Fixes plan-by-kinds.ps plan-by-kinds.r plan-by.Post
-plan-by-fixes κs a x x′ s s′ p q = same (p .0) (q .0)
-
-pub pair-of-fixes : Fixes pair-of-kinds.ps pair-of-kinds.r pair-of.Post
-pair-of-fixes κs a x x′ s s′ p q = same (p .0) (q .0)
-
-pub p-at-fixes : Fixes p-at-kinds.ps p-at-kinds.r p-at.Post
-p-at-fixes κs a x x′ s s′ = same
-
-pub p-from-fixes : Fixes p-from-kinds.ps p-from-kinds.r p-from.Post
-p-from-fixes κs a x x′ s s′ = same
-
-pub q-from-fixes : Fixes q-from-kinds.ps q-from-kinds.r q-from.Post
-q-from-fixes κs a x x′ s s′ = same
-
-pub p-position-fixes : Fixes p-position-kinds.ps p-position-kinds.r p-position.Post
-p-position-fixes κs a x x′ s s′ p q = same (p .0) (q .0)
-
-pub q-position-fixes : Fixes q-position-kinds.ps q-position-kinds.r q-position.Post
-q-position-fixes κs a x x′ s s′ p q = same (p .0) (q .0)
-
-pub g-position-fixes : Fixes g-position-kinds.ps g-position-kinds.r g-position.Post
-g-position-fixes κs a x x′ s s′ = same
 
 pub cell-fixes : Fixes cell-kinds.ps cell-kinds.r cell.Post
 cell-fixes κs a x x′ s s′ = same

@@ -3,7 +3,7 @@ use mathlib.Core.Path.{_≡_}
 use mathlib.Core.Bool.{Bool, true, false}
 use mathlib.Core.List.{List}
 use Prim.Native.Nat.{ℕ, _+_, _<_, _≤_}
-use lib.ListN.{set, length, take, drop, replicate}
+use lib.ListN.{set, length}
 use Rattle.model.specs.Memory.{mark}
 use Rattle.model.specs.Claims.{First}
 
@@ -47,11 +47,6 @@ marked m p = set m p 1
 -- no mark anywhere: every byte is 0
 abbrev pub Clear : List ℕ → Type 0
 Clear m = (p : ℕ) → p < room m → mark m p ≡ 0
-
--- the first w bytes are 0, and the others as they were ("8 to 12 set the first W bytes to 0", 01, "What comes back")
-pub record Cleared (w : ℕ) (m m′ : List ℕ) : Type 0 where
-  pub zeros : take w m′ ≡ replicate w 0
-  pub rest : drop w m′ ≡ drop w m
 
 -- what the answer of a test means
 abbrev pub Is : Type 0 → Bool → Type 0

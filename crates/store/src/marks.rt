@@ -2,7 +2,8 @@
 ghost use mathlib.Core.Path.{_≡_};
 ghost use Prim.Native.Nat.{_+_, _<_, _≤_};
 ghost use lib.ListN.{length, replicate};
-ghost use Rattle.store.specs.Marking.{room, Has, SomeIn, LacksIn, NextMark, marked, Cleared, Is};
+ghost use Rattle.store.specs.Marking.{room, Has, SomeIn, LacksIn, NextMark, marked, Is};
+ghost use Rattle.store.specs.Clearing.{Cleared};
 
 // Whether there is a mark at p.
 pub fn has(mem: &[u8], p: usize) -> bool

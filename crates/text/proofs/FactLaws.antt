@@ -7,9 +7,9 @@ use native.Mathlib.Decide.{decLt}
 use native.Mathlib.Omega.{arith}
 use Rattle.files.specs.Table.{Table}
 use Rattle.model.specs.Positions.{baseP, baseQ, atG, atP, atQ, factAt}
-use Rattle.store.specs.declared.plan.Plan.{Plan}
-use Rattle.store.specs.Plans.{Planned, planOf}
-use Rattle.store.proofs.Places.{called}
+use Rattle.positions.specs.declared.plan.Plan.{Plan}
+use Rattle.positions.specs.Plans.{Planned, planOf}
+use Rattle.positions.proofs.Places.{called}
 use Rattle.text.specs.Facts.{sizesOf, planFact}
 
 -- by the plan of a table, the fact at a position is model's

@@ -4,7 +4,7 @@ use Prim.Native.Nat.{ℕ}
 use Rattle.files.specs.Table.{Table}
 use Rattle.model.specs.Rules.{Fact, G, P, Q}
 use Rattle.model.specs.Positions.{factAt}
-use Rattle.store.specs.declared.plan.Plan.{Plan}
+use Rattle.positions.specs.declared.plan.Plan.{Plan}
 use Rattle.text.specs.declared.facts.FactFields.{FactFields}
 use Rattle.text.specs.declared.facts.FactFields.the-variants as fields
 

@@ -2,13 +2,13 @@
 ghost use Prim.Native.Nat.{_<_, min};
 ghost use mathlib.Core.Path.{_≡_};
 ghost use lib.ListN.{take};
-ghost use Rattle.store.specs.Plans.{Planned};
+ghost use Rattle.positions.specs.Plans.{Planned};
 ghost use Rattle.words.specs.Text.{Written};
 ghost use Rattle.text.specs.Listing.{factsLine, safeLine, possibleLine, refusedLine, factLine, bytesLine, acceptedLine, claimRefusedLine};
 ghost use Rattle.text.specs.Facts.{planFact};
 use crate::facts::FactFields;
 use crate::facts::fact_at;
-use store::plan::Plan;
+use positions::plan::Plan;
 use words::line::put_line;
 
 // The room for a line. The longest has a word of 16 bytes, six numbers of at most 20 digits with a blank before each, and the line feed.

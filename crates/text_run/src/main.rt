@@ -1,8 +1,8 @@
 // Prints lines of every kind of the listing and of the programs on claims, at the borders of their numbers and positions.
-ghost use Rattle.store.specs.Plans.{Planned};
+ghost use Rattle.positions.specs.Plans.{Planned};
 use libc::STDOUT_FILENO;
-use store::plan::Plan;
-use store::plan::plan_of;
+use positions::plan::Plan;
+use positions::plan::plan_of;
 use text::lines::ROOM;
 use text::lines::accepted_line;
 use text::lines::bytes_line;

@@ -11,9 +11,9 @@ use Rattle.model.specs.Positions.{Fits, pos}
 use Rattle.model.specs.Memory.{Marked}
 use Rattle.model.proofs.Positions.{Stands}
 use Rattle.store.specs.Marking.{Has}
-use Rattle.store.specs.Plans.{pFrom, qFrom, gAt, planOf}
+use Rattle.positions.specs.Plans.{pFrom, qFrom, gAt, planOf}
 use Rattle.store.proofs.MarkLaws.{marked-has, has-marked}
-use Rattle.store.proofs.PlanIsModel.{pos-g, pos-p-from, pos-q-from, pair-fits}
+use Rattle.positions.proofs.PlanIsModel.{pos-g, pos-p-from, pos-q-from, pair-fits}
 use Rattle.uses.specs.Uses.{Uses, Single, Either, Upto, Lacks}
 
 -- ---- from uses of the rules

@@ -11,9 +11,9 @@ use Rattle.model.specs.Positions.{pos}
 use Rattle.model.specs.Memory.{Marked}
 use Rattle.model.proofs.Positions.{Stands}
 use Rattle.store.specs.Marking.{Has}
-use Rattle.store.specs.Plans.{qFrom, planOf}
+use Rattle.positions.specs.Plans.{qFrom, planOf}
 use Rattle.store.proofs.MarkLaws.{marked-has}
-use Rattle.store.proofs.PlanIsModel.{pos-p-row, pos-q-row, pair-digits, pair-fits}
+use Rattle.positions.proofs.PlanIsModel.{pos-p-row, pos-q-row, pair-digits, pair-fits}
 use Rattle.uses.specs.Uses.{Uses, Upto}
 use Rattle.uses.specs.RuleUses.{CallUse}
 use Rattle.uses.proofs.Bridge.{Used, upto-at, Yielded, marked-at, one-yields, p-stands, q-stands}

@@ -14,9 +14,9 @@ use Rattle.model.specs.Positions.{pos}
 use Rattle.model.specs.Memory.{Marked}
 use Rattle.model.proofs.Positions.{Stands}
 use Rattle.store.specs.Marking.{Has}
-use Rattle.store.specs.Plans.{planOf}
+use Rattle.positions.specs.Plans.{planOf}
 use Rattle.store.proofs.MarkLaws.{marked-has}
-use Rattle.store.proofs.PlanIsModel.{pos-g}
+use Rattle.positions.proofs.PlanIsModel.{pos-g}
 use Rattle.uses.specs.Uses.{Uses, Upto}
 use Rattle.uses.specs.RuleUses.{MovedUse}
 use Rattle.uses.proofs.Bridge.{Used, upto-at, Yielded, marked-at, one-yields}

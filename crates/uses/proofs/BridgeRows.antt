@@ -11,9 +11,9 @@ use Rattle.model.specs.Positions.{pos}
 use Rattle.model.specs.Memory.{Marked}
 use Rattle.store.specs.declared.rows.Row.{Row}
 use Rattle.store.specs.Marking.{Has}
-use Rattle.store.specs.Plans.{planOf}
+use Rattle.positions.specs.Plans.{planOf}
 use Rattle.store.specs.Reading.{rowOf, stepOf, pushOf, popOf, Same}
-use Rattle.store.proofs.PlanIsModel.{pos-g, pos-p-row, pos-q-row}
+use Rattle.positions.proofs.PlanIsModel.{pos-g, pos-p-row, pos-q-row}
 use Rattle.uses.specs.declared.kinds.Kind.the-variants.{Push as Pushing, Pop as Popping}
 use Rattle.uses.specs.Uses.{Uses}
 use Rattle.uses.specs.RuleUses.{StepUse, PushUse, PopUse, OfRows, StepUses, RowUses}

@@ -6,12 +6,12 @@ use mathlib.Core.List.{List}
 use Prim.Native.Nat.{ℕ, _+_, _*_, _/_, _%_, _<_, _≤_}
 use native.Mathlib.Nat.{mod-lt}
 use native.Mathlib.Omega.{arith}
-use Rattle.store.specs.declared.plan.Plan.{Plan}
+use Rattle.positions.specs.declared.plan.Plan.{Plan}
 use Rattle.store.specs.declared.rows.Row.{Row}
 use Rattle.store.specs.Marking.{Has, SomeIn}
-use Rattle.store.specs.Plans.{Planned, pFrom, qFrom}
+use Rattle.positions.specs.Plans.{Planned, pFrom, qFrom}
 use Rattle.store.specs.Reading.{rowOf}
-use Rattle.store.proofs.Places.{pair-lt, q-row, cut}
+use Rattle.positions.proofs.Places.{pair-lt, q-row, cut}
 use Rattle.uses.specs.declared.kinds.Kind.the-variants.{Push, Pop}
 use Rattle.uses.specs.Ranges.{EachIn}
 use Rattle.uses.specs.Uses.{Single, Either, Upto}

@@ -5,9 +5,9 @@ use Prim.Native.Nat.{ℕ, _+_, _*_, _/_, _%_, _<_, _≤_}
 use native.Mathlib.Nat.{mod-lt, mul-le-mul, div-lt-iff-lt-mul, div-add-mod'}
 use native.Mathlib.Omega.{arith}
 use lib.Arith.{digits-lt, digits-div, digits-mod}
-use Rattle.store.specs.declared.plan.Plan.{Plan}
-use Rattle.store.specs.Plans.{Planned, pFrom, qFrom}
-use Rattle.store.proofs.Places.{p-row, q-rows}
+use Rattle.positions.specs.declared.plan.Plan.{Plan}
+use Rattle.positions.specs.Plans.{Planned, pFrom, qFrom}
+use Rattle.positions.proofs.Places.{p-row, q-rows}
 use Rattle.uses.specs.Uses.{Uses, Upto}
 
 module _ {s : Plan} (h : Planned s) where

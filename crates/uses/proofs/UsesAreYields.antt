@@ -12,13 +12,13 @@ use Rattle.model.specs.Positions.{pos, factAt}
 use Rattle.model.specs.Memory.{Marked}
 use Rattle.model.specs.Claims.{Missing}
 use Rattle.model.proofs.Positions.{pos-lt, factAt-pos, factAt-stands}
-use Rattle.store.specs.declared.plan.Plan.{Plan}
+use Rattle.positions.specs.declared.plan.Plan.{Plan}
 use Rattle.store.specs.declared.rows.RowCounts.{RowCounts}
 use Rattle.store.specs.Marking.{Has}
-use Rattle.store.specs.Plans.{planOf}
+use Rattle.positions.specs.Plans.{planOf}
 use Rattle.store.specs.Reading.{Reads}
 use Rattle.store.proofs.MarkLaws.{marked-has}
-use Rattle.store.proofs.PlanIsModel.{planned, pos-p-row, pos-q-row}
+use Rattle.positions.proofs.PlanIsModel.{planned, pos-p-row, pos-q-row}
 use Rattle.uses.specs.Uses.{Uses, Lacks}
 use Rattle.uses.specs.AllUses.{PUses, FrameUses, QUses, AllUses}
 use Rattle.uses.proofs.RowNumbers.{row-thread, row-pair, row-of}

@@ -2,9 +2,9 @@
 -- facts of thread i / k from pair i % k.
 use mathlib.Core.List.{List}
 use Prim.Native.Nat.{ℕ, _+_, _*_, _/_, _%_}
-use Rattle.store.specs.declared.plan.Plan.{Plan}
+use Rattle.positions.specs.declared.plan.Plan.{Plan}
 use Rattle.store.specs.declared.rows.RowCounts.{RowCounts}
-use Rattle.store.specs.Plans.{pFrom, qFrom}
+use Rattle.positions.specs.Plans.{pFrom, qFrom}
 use Rattle.store.specs.Reading.{rowOf}
 use Rattle.uses.specs.declared.kinds.Kind.the-variants.{Push, Pop}
 use Rattle.uses.specs.Uses.{Uses, Either, Upto}

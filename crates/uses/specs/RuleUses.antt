@@ -3,9 +3,9 @@
 use mathlib.Core.Path.{_≡_}
 use mathlib.Core.List.{List}
 use Prim.Native.Nat.{ℕ, _+_, _*_, _/_, _%_}
-use Rattle.store.specs.declared.plan.Plan.{Plan}
+use Rattle.positions.specs.declared.plan.Plan.{Plan}
 use Rattle.store.specs.declared.rows.Row.{Row}
-use Rattle.store.specs.Plans.{pair, pFrom, qFrom, gAt}
+use Rattle.positions.specs.Plans.{pair, pFrom, qFrom, gAt}
 use Rattle.store.specs.Reading.{rowOf}
 use Rattle.uses.specs.declared.kinds.Kind.{Kind}
 use Rattle.uses.specs.declared.kinds.Kind.the-variants.{Push, Pop}

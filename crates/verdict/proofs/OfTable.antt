@@ -13,10 +13,10 @@ use Rattle.model.specs.Rules.{P}
 use Rattle.model.specs.Errors.{Cell, Erroneous, Reaches, Witness, Allows}
 use Rattle.model.specs.Errors as model
 use Rattle.model.specs.Memory.{Marked}
-use Rattle.store.specs.declared.plan.Plan.{Plan}
-use Rattle.store.specs.Plans.{Planned, planOf}
+use Rattle.positions.specs.declared.plan.Plan.{Plan}
+use Rattle.positions.specs.Plans.{Planned, planOf}
 use Rattle.store.proofs.MarkLaws.{marked-has, has-marked}
-use Rattle.store.proofs.PlanIsModel.{planned, pos-p, pos-p-to, pair-fits}
+use Rattle.positions.proofs.PlanIsModel.{planned, pos-p, pos-p-to, pair-fits}
 use Rattle.model.proofs.Lists.{some-lt}
 use Rattle.verdict.specs.ErrorRows.{rowCell, ErrorsOf}
 use Rattle.verdict.specs.Search.{Reached}

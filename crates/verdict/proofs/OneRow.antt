@@ -13,7 +13,7 @@ use Rattle.model.specs.Errors.{Erroneous, Allows}
 use Rattle.model.specs.Verdict.{_≼_}
 use Rattle.model.specs.Memory.{Marked}
 use Rattle.model.specs.Claims.{First}
-use Rattle.store.specs.declared.plan.Plan.{Plan}
+use Rattle.positions.specs.declared.plan.Plan.{Plan}
 use Rattle.verdict.specs.ErrorRows.{ErrorsOf}
 use Rattle.verdict.specs.Search.{
   Reached,

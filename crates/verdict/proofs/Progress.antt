@@ -15,7 +15,7 @@ use Rattle.model.specs.Errors.{Witness, Allows}
 use Rattle.model.specs.Verdict.{SmallestWitness, safe, possible}
 use Rattle.model.specs.Memory.{Marked}
 use Rattle.model.specs.Claims.{First}
-use Rattle.store.specs.declared.plan.Plan.{Plan}
+use Rattle.positions.specs.declared.plan.Plan.{Plan}
 use Rattle.verdict.specs.declared.search.Verdict.the-variants.{Safe, Possible}
 use Rattle.files.proofs.TableLaws.{four-numbers}
 use Rattle.verdict.specs.ErrorRows.{ErrorsOf, Judged}

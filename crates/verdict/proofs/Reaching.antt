@@ -9,8 +9,8 @@ use native.Mathlib.Omega.{arith}
 use Rattle.model.specs.Errors.{Cell}
 use Rattle.model.specs.Claims.{First}
 use Rattle.model.proofs.Unique.{first-same}
-use Rattle.store.specs.declared.plan.Plan.{Plan}
-use Rattle.store.specs.Plans.{pair, pAt}
+use Rattle.positions.specs.declared.plan.Plan.{Plan}
+use Rattle.positions.specs.Plans.{pair, pAt}
 use Rattle.store.specs.Marking.{Has, Is}
 use Rattle.verdict.specs.Search.{Reached, Choice, Least, smallest, nothing}
 use Rattle.verdict.proofs.Numbers.{least-first}

@@ -7,8 +7,8 @@ use Prim.Native.Nat.{ℕ, zero, suc, _+_, _*_, _<_}
 use native.Mathlib.Decide.{ℕ-discrete}
 use Rattle.model.specs.Errors.{Cell}
 use Rattle.model.specs.Claims.{First}
-use Rattle.store.specs.declared.plan.Plan.{Plan}
-use Rattle.store.specs.Plans.{pair, pAt}
+use Rattle.positions.specs.declared.plan.Plan.{Plan}
+use Rattle.positions.specs.Plans.{pair, pAt}
 use Rattle.store.specs.Marking.{Has}
 use Rattle.verdict.specs.ErrorRows.{rowCell}
 

@@ -4,13 +4,13 @@ ghost use mathlib.Core.Path.{_≡_};
 ghost use Prim.Native.Nat.{_+_, _*_, _<_, _≤_};
 ghost use lib.ListN.{length};
 ghost use Rattle.files.specs.Table.{mostThreads, mostErrors};
-ghost use Rattle.store.specs.Plans.{Planned};
+ghost use Rattle.positions.specs.Plans.{Planned};
 ghost use Rattle.store.specs.Marking.{room};
 ghost use Rattle.verdict.specs.Search.{Reached, Last, Picked, Aimed, cellAt};
 use crate::reach::cell_fits;
 use crate::reach::least;
 use crate::reach::reached;
-use store::plan::Plan;
+use positions::plan::Plan;
 use store::rows::cell;
 
 // The last thread up to t that reaches l at g, given u, the last before t.

@@ -2,13 +2,13 @@
 ghost use mathlib.Core.Path.{_≡_};
 ghost use Prim.Native.Nat.{_<_, _≤_};
 ghost use Rattle.model.specs.Errors.{Cell};
-ghost use Rattle.store.specs.Plans.{Planned};
+ghost use Rattle.positions.specs.Plans.{Planned};
 ghost use Rattle.store.specs.Marking.{room, Is};
 ghost use Rattle.verdict.specs.Search.{Reached, Choice, Least};
+use positions::plan::Plan;
+use positions::plan::p_at;
+use positions::plan::pair_of;
 use store::marks::has;
-use store::plan::Plan;
-use store::plan::p_at;
-use store::plan::pair_of;
 
 // Whether thread t reaches local store l at g: some P fact of t ends there.
 pub fn reached(s: Plan, mem: &[u8], t: usize, g: usize, l: usize) -> bool

@@ -9,7 +9,7 @@ ghost use Rattle.verdict.specs.ErrorRows.{ErrorsOf, Judged};
 use crate::cells::aim;
 use crate::cells::cell_of;
 use crate::reach::least;
-use store::plan::Plan;
+use positions::plan::Plan;
 
 // The verdict. The witness of a possible error is its row, its shared store g, and the local stores of threads 0 to 3, with 0 for a thread
 // that is not there.

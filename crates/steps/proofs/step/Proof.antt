@@ -4,10 +4,10 @@ use mathlib.Core.Path.{_≡_, ap, _∙_}
 use Prim.Native.Nat.{ℕ, _+_}
 use native.Mathlib.Omega.{arith}
 use borrow.Author.Needs.{needs}
-use Rattle.store.specs.declared.plan.Plan.{Plan}
+use Rattle.positions.specs.declared.plan.Plan.{Plan}
 use Rattle.store.specs.declared.rows.Row.{Row}
-use Rattle.store.specs.Plans.{pair, pFrom, gAt}
-use Rattle.store.proofs.Places.{g-lt, parts}
+use Rattle.positions.specs.Plans.{pair, pFrom, gAt}
+use Rattle.positions.proofs.Places.{g-lt, parts}
 use Rattle.uses.specs.RuleUses.{placeOf}
 use Rattle.uses.proofs.PassLaws.{swept-room, and-then, one-at}
 use Rattle.steps.proofs.step.Statement.{statement}

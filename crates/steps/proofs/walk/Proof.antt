@@ -7,10 +7,10 @@ use mathlib.Core.List.{List, [], _∷_}
 use native.Mathlib.Omega.{arith}
 use lib.ListN.{length, replicate}
 use borrow.Fn.Written
-use Rattle.store.specs.declared.plan.Plan.{Plan}
+use Rattle.positions.specs.declared.plan.Plan.{Plan}
 use Rattle.store.specs.declared.rows.Row as stored
 use Rattle.store.specs.Marking.{room}
-use Rattle.store.specs.Plans.{Planned}
+use Rattle.positions.specs.Plans.{Planned}
 use Rattle.store.specs.Reading.{nth, zeroRow}
 use Rattle.uses.specs.declared.lines.Pass.{Pass}
 use Rattle.uses.specs.Ranges.{RowIn, EachIn}

@@ -6,9 +6,9 @@ use native.Mathlib.Omega.{arith}
 use borrow.Author.Needs.{needs}
 use borrow.Author.Tests.{not-true}
 use Rattle.store.specs.Marking.{SomeIn}
-use Rattle.store.specs.Plans.{qFrom}
+use Rattle.positions.specs.Plans.{qFrom}
 use Rattle.store.proofs.MarkLaws.{is-false}
-use Rattle.store.proofs.Places.{q-rows, q-row}
+use Rattle.positions.proofs.Places.{q-rows, q-row}
 use Rattle.uses.specs.Uses.{Upto, Either}
 use Rattle.uses.specs.RuleUses.{CallUse, MovedUse}
 use Rattle.uses.proofs.PassLaws.{swept-room, swept-of, and-then}

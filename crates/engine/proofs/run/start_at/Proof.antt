@@ -3,7 +3,7 @@
 use mathlib.Core.Path.{_≡_, sym, ap, subst, _∙_}
 use Prim.Native.Nat.{ℕ, _+_, _*_, _≤_, _<_}
 use native.Mathlib.Omega.{arith}
-use Rattle.store.proofs.Places.{p-line, ck-small, parts}
+use Rattle.positions.proofs.Places.{p-line, ck-small, parts}
 use Rattle.engine.specs.StartFacts.{startAt}
 use Rattle.engine.proofs.run.start_at.Statement.{statement}
 use Rattle.engine.proofs.run.start_at.Tie as tie

@@ -7,7 +7,7 @@ use native.Mathlib.Omega.{arith}
 use borrow.Author.Needs.{needs}
 use Rattle.store.specs.Marking.{SomeIn}
 use Rattle.store.proofs.MarkLaws.{is-true, is-false}
-use Rattle.store.proofs.Places.{parts}
+use Rattle.positions.proofs.Places.{parts}
 use Rattle.engine.specs.Turns.{NoneBetween}
 use Rattle.uses.proofs.RowNumbers.{rows-small, p-room}
 use Rattle.engine.proofs.NextRow.{rows-end, none-more}

@@ -2,7 +2,7 @@
 -- Assumes nothing.
 use native.Mathlib.Omega.{arith}
 use borrow.Author.Needs.{needs}
-use Rattle.store.proofs.Places.{p-row, parts}
+use Rattle.positions.proofs.Places.{p-row, parts}
 use Rattle.uses.specs.Uses.{Upto}
 use Rattle.uses.specs.RuleUses.{MovedUse}
 use Rattle.uses.proofs.PassLaws.{swept-room, swept-of, and-then}

@@ -9,11 +9,11 @@ use native.Mathlib.Omega.{arith}
 use lib.Dec.{lit<, ltb}
 use lib.ListN.{length, take, replicate}
 use borrow.Fn.Written
-use Rattle.store.specs.declared.plan.Plan.{Plan}
+use Rattle.positions.specs.declared.plan.Plan.{Plan}
 use Rattle.store.specs.declared.rows.RowCounts.{RowCounts}
 use Rattle.store.specs.declared.rows.Row as stored
 use Rattle.store.specs.Marking.{room}
-use Rattle.store.specs.Plans.{Planned}
+use Rattle.positions.specs.Plans.{Planned}
 use Rattle.store.specs.Reading.{nth, Listed, rowOf as rowAt}
 use Rattle.uses.specs.declared.lines.Pass.{Pass}
 use Rattle.uses.specs.Ranges.{EachIn, RowsIn}

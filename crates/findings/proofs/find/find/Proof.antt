@@ -10,7 +10,7 @@ use lib.ListN.{length}
 use Rattle.files.specs.Table.{Table}
 use Rattle.model.specs.Rules.{Starts, ClosedWithStarts}
 use Rattle.model.specs.Memory.{Marked}
-use Rattle.store.specs.Plans.{planOf}
+use Rattle.positions.specs.Plans.{planOf}
 use Rattle.verdict.specs.ErrorRows.{Judged}
 use Rattle.rules.specs.Lent.{Stored}
 use Rattle.rules.proofs.LentRows.{stored-rows, stored-begins, stored-errors}

@@ -5,7 +5,7 @@ use native.Mathlib.Omega.{arith}
 use borrow.Author.Needs.{needs}
 use borrow.Author.Tests.{not-true, not-false}
 use Rattle.store.proofs.MarkLaws.{is-true, is-false}
-use Rattle.store.proofs.Places.{p-row, parts}
+use Rattle.positions.proofs.Places.{p-row, parts}
 use Rattle.uses.proofs.PassLaws.{swept-with, swept-without, flat-line, line-at}
 use Rattle.passes.proofs.calls.call.Statement.{statement}
 use Rattle.passes.proofs.calls.call.Tie as tie

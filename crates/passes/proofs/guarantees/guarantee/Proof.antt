@@ -6,7 +6,7 @@ use native.Mathlib.Omega.{arith}
 use borrow.Author.Needs.{needs}
 use borrow.Author.Tests.{not-true, not-false}
 use Rattle.store.proofs.MarkLaws.{is-true, is-false}
-use Rattle.store.proofs.Places.{cut, parts}
+use Rattle.positions.proofs.Places.{cut, parts}
 use Rattle.uses.proofs.PassLaws.{swept-with, swept-without, swept-under, swept-never, flat-line, flat-under}
 use Rattle.passes.proofs.guarantees.guarantee.Statement.{statement}
 use Rattle.passes.proofs.guarantees.guarantee.Tie as tie

@@ -4,9 +4,9 @@ use mathlib.Core.Path.{_≡_}
 use Prim.Native.Nat.{ℕ, _+_, _*_}
 use native.Mathlib.Omega.{arith}
 use borrow.Author.Needs.{needs}
-use Rattle.store.specs.declared.plan.Plan.{Plan}
+use Rattle.positions.specs.declared.plan.Plan.{Plan}
 use Rattle.store.specs.declared.rows.Row.{Row}
-use Rattle.store.specs.Plans.{pair, pFrom, qFrom}
+use Rattle.positions.specs.Plans.{pair, pFrom, qFrom}
 use Rattle.uses.proofs.PassLaws.{one-at}
 use Rattle.passes.proofs.row_rules.pop.Statement.{statement}
 use Rattle.passes.proofs.row_rules.pop.Tie as tie

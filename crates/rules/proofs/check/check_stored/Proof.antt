@@ -7,7 +7,7 @@ use borrow.Author.Needs.{needs}
 use denote.Ref.{now}
 use lib.ListN.{length}
 use Rattle.files.specs.Table.{Table}
-use Rattle.store.specs.Plans.{planOf}
+use Rattle.positions.specs.Plans.{planOf}
 use Rattle.rules.specs.Lent.{Stored}
 use Rattle.rules.proofs.LentRows.{stored-rows, stored-begins, stored-errors}
 use Rattle.rules.proofs.LentRows.{stored-room, stored-plan, stored-sizes, stored-errors-long}

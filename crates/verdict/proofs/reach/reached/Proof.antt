@@ -4,10 +4,10 @@ use mathlib.Core.Path.{_≡_, ap, _∙_}
 use Prim.Native.Nat.{ℕ, _+_, _*_, _-_, _≤_, _<_}
 use native.Mathlib.Omega.{arith}
 use borrow.Author.Needs.{needs}
-use Rattle.store.specs.Plans.{pAt, pair}
+use Rattle.positions.specs.Plans.{pAt, pair}
 use Rattle.store.specs.Marking.{Has}
 use Rattle.store.proofs.MarkLaws.{is-true, is-false}
-use Rattle.store.proofs.Places.{p-line, ck-small, parts}
+use Rattle.positions.proofs.Places.{p-line, ck-small, parts}
 use Rattle.verdict.proofs.Numbers.{none-more}
 use Rattle.verdict.proofs.Reaching.{mark-reached, no-mark-reached}
 use Rattle.verdict.proofs.reach.reached.Statement.{statement}

@@ -1,7 +1,7 @@
 // The plan of a table: its sizes, worked out once, and the only code that computes positions.
 ghost use mathlib.Core.Path.{_≡_};
 ghost use Prim.Native.Nat.{_+_, _*_, _<_, _≤_};
-ghost use Rattle.store.specs.Plans.{Planned, pair, pAt, pFrom, qFrom, gAt, sized};
+ghost use Rattle.positions.specs.Plans.{Planned, pair, pAt, pFrom, qFrom, gAt, sized};
 use cells::columns::Sizes;
 
 // W of the largest table that the limits allow: no table has more facts.

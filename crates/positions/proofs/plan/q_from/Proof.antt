@@ -3,9 +3,9 @@
 use Prim.Native.Nat.{_+_, _*_, _≤_}
 use native.Mathlib.Omega.{arith}
 use borrow.Author.Needs.{needs}
-use Rattle.store.proofs.Places.{row-small, parts}
-use Rattle.store.proofs.plan.q_from.Statement.{statement}
-use Rattle.store.proofs.plan.q_from.Tie as tie
+use Rattle.positions.proofs.Places.{row-small, parts}
+use Rattle.positions.proofs.plan.q_from.Statement.{statement}
+use Rattle.positions.proofs.plan.q_from.Tie as tie
 
 sizes : (c : tie.Start) → let s = c .args .s in
     (c .args .t * s .k ≤ 1024) × (s .f * s .k ≤ 2048) × ((c .args .t * s .k + c .args .a) * (s .f * s .k) ≤ 2621440) × (s .q ≤ s .w)

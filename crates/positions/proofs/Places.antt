@@ -7,8 +7,8 @@ use native.Mathlib.Nat.{mul-le-mul, mod-lt, mul-le-mul-right, div-lt-iff-lt-mul}
 use native.Mathlib.Omega.{arith}
 use lib.Arith.{digits-lt}
 use Rattle.model.proofs.Positions.{right-pos}
-use Rattle.store.specs.declared.plan.Plan.{Plan}
-use Rattle.store.specs.Plans.{Planned, pair, pAt, pFrom, qFrom, gAt}
+use Rattle.positions.specs.declared.plan.Plan.{Plan}
+use Rattle.positions.specs.Plans.{Planned, pair, pAt, pFrom, qFrom, gAt}
 
 module _ {s : Plan} (h : Planned s) where
   pub pair-lt : {g l : ℕ} → g < s .g → l < s .l → pair s g l < s .k

@@ -5,10 +5,10 @@ use Prim.Native.Nat.{_+_, _≤_, _<_}
 use native.Mathlib.Omega.{arith}
 use borrow.Author.Needs.{needs}
 use Rattle.files.specs.Table.{mostFacts}
-use Rattle.store.specs.Plans.{pFrom}
-use Rattle.store.proofs.Places.{p-lt}
-use Rattle.store.proofs.plan.p_position.Statement.{statement}
-use Rattle.store.proofs.plan.p_position.Tie as tie
+use Rattle.positions.specs.Plans.{pFrom}
+use Rattle.positions.proofs.Places.{p-lt}
+use Rattle.positions.proofs.plan.p_position.Statement.{statement}
+use Rattle.positions.proofs.plan.p_position.Tie as tie
 
 below : (c : tie.Start) → let a = c .args in (pFrom (a .s) (a .t) (a .a) + a .c < a .s .w) × (a .s .w ≤ mostFacts)
 below c = let (h, t, a, d) = c .pre in (p-lt h t a d, h .w-max)

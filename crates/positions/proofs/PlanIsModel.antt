@@ -9,9 +9,9 @@ use Rattle.files.specs.Table.{Table, Sound, W, room}
 use Rattle.model.specs.Rules.{G, P, Q}
 use Rattle.model.specs.Positions.{baseP, baseQ, pos}
 use Rattle.files.proofs.RoomLaws.{W-max}
-use Rattle.store.specs.declared.plan.Plan.{Plan}
-use Rattle.store.specs.Plans.{Planned, pAt, pFrom, qFrom, gAt, planOf}
-use Rattle.store.proofs.Places.{small}
+use Rattle.positions.specs.declared.plan.Plan.{Plan}
+use Rattle.positions.specs.Plans.{Planned, pAt, pFrom, qFrom, gAt, planOf}
+use Rattle.positions.proofs.Places.{small}
 
 module _ (T : Table) where
   abbrev s : Plan

@@ -2,9 +2,9 @@
 -- Assumes nothing.
 use mathlib.Core.Path.{refl}
 use native.Mathlib.Omega.{arith}
-use Rattle.store.proofs.Places.{Small, small}
-use Rattle.store.proofs.plan.plan_of.Statement.{statement}
-use Rattle.store.proofs.plan.plan_of.Tie as tie
+use Rattle.positions.proofs.Places.{Small, small}
+use Rattle.positions.proofs.plan.plan_of.Statement.{statement}
+use Rattle.positions.proofs.plan.plan_of.Tie as tie
 
 sizes : (c : tie.Start) → Small (c .args .n) (c .args .g) (c .args .l) (c .args .f)
 sizes c = let h = c .pre in small (c .args .n) (c .args .g) (c .args .l) (c .args .f) (h .1) (h .3) (h .5) (h .6)

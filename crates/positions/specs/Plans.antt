@@ -2,7 +2,7 @@
 use mathlib.Core.Path.{_≡_}
 use Prim.Native.Nat.{ℕ, _+_, _*_, _<_, _≤_}
 use Rattle.files.specs.Table.{Table, mostThreads, mostShared, mostLocals, mostFrames, mostFacts}
-use Rattle.store.specs.declared.plan.Plan.{Plan}
+use Rattle.positions.specs.declared.plan.Plan.{Plan}
 
 -- a pair of a shared and a local store is a number below k; p and q are where the P and the Q facts begin, and w is how many facts there are
 pub record Planned (s : Plan) : Type 0 where

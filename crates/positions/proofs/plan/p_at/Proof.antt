@@ -3,9 +3,9 @@
 use Prim.Native.Nat.{_*_, _≤_}
 use native.Mathlib.Omega.{arith}
 use borrow.Author.Needs.{needs}
-use Rattle.store.proofs.Places.{p-small, parts}
-use Rattle.store.proofs.plan.p_at.Statement.{statement}
-use Rattle.store.proofs.plan.p_at.Tie as tie
+use Rattle.positions.proofs.Places.{p-small, parts}
+use Rattle.positions.proofs.plan.p_at.Statement.{statement}
+use Rattle.positions.proofs.plan.p_at.Tie as tie
 
 sizes : (c : tie.Start) → let s = c .args .s in ((c .args .t * s .k ≤ 1024) × (c .args .t * s .k * s .k ≤ 262144)) × ((s .p ≤ s .q) × (s .q ≤ s .w))
 sizes c = (p-small (c .pre .0) (c .pre .1), parts (c .pre .0))

@@ -3,9 +3,9 @@
 use Prim.Native.Nat.{_+_, _*_, _≤_}
 use native.Mathlib.Omega.{arith}
 use borrow.Author.Needs.{needs}
-use Rattle.store.proofs.Places.{g-small}
-use Rattle.store.proofs.plan.g_position.Statement.{statement}
-use Rattle.store.proofs.plan.g_position.Tie as tie
+use Rattle.positions.proofs.Places.{g-small}
+use Rattle.positions.proofs.plan.g_position.Statement.{statement}
+use Rattle.positions.proofs.plan.g_position.Tie as tie
 
 sizes : (c : tie.Start) → let s = c .args .s in (c .args .t * s .g ≤ 64) × ((c .args .t * s .g + c .args .g) * s .g ≤ 1280)
 sizes c = g-small (c .pre .0) (c .pre .1) (c .pre .2)

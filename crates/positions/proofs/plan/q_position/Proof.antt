@@ -5,10 +5,10 @@ use Prim.Native.Nat.{_+_, _*_, _≤_, _<_}
 use native.Mathlib.Omega.{arith}
 use borrow.Author.Needs.{needs}
 use Rattle.files.specs.Table.{mostFacts}
-use Rattle.store.specs.Plans.{qFrom}
-use Rattle.store.proofs.Places.{q-lt}
-use Rattle.store.proofs.plan.q_position.Statement.{statement}
-use Rattle.store.proofs.plan.q_position.Tie as tie
+use Rattle.positions.specs.Plans.{qFrom}
+use Rattle.positions.proofs.Places.{q-lt}
+use Rattle.positions.proofs.plan.q_position.Statement.{statement}
+use Rattle.positions.proofs.plan.q_position.Tie as tie
 
 below : (c : tie.Start) → let a = c .args in (qFrom (a .s) (a .t) (a .a) + a .f * a .s .k + a .c < a .s .w) × (a .s .w ≤ mostFacts)
 below c = let (h, t, a, f, d) = c .pre in (q-lt h t a f d, h .w-max)

@@ -3,9 +3,9 @@
 use Prim.Native.Nat.{_*_, _≤_}
 use native.Mathlib.Omega.{arith}
 use borrow.Author.Needs.{needs}
-use Rattle.store.proofs.Places.{pair-lt, pair-small}
-use Rattle.store.proofs.plan.pair_of.Statement.{statement}
-use Rattle.store.proofs.plan.pair_of.Tie as tie
+use Rattle.positions.proofs.Places.{pair-lt, pair-small}
+use Rattle.positions.proofs.plan.pair_of.Statement.{statement}
+use Rattle.positions.proofs.plan.pair_of.Tie as tie
 
 sizes : (c : tie.Start) → c .args .g * c .args .s .l ≤ 256
 sizes c = pair-small (c .pre .0) (c .pre .1)
