@@ -4,7 +4,7 @@
 --   ClaimLaws         a claim that is read, and what the code's answer tells of it
 --   ClaimMarks        a memory in which the positions of a claim are marked
 --   MarkedPositions   the positions that are marked in a memory, one after the other
---   WritingLoops      the loops over them, and how the bytes of a claim are put together
+--   ClaimBytes        how the bytes of a claim are put together
 --   RoundTrip         reading and writing a claim undo one another
 --   PositionsOfMarks  the positions that are marked are exactly the marked ones
 --   ClaimIsModel      a memory in which a claim is marked holds the claimed facts
@@ -15,7 +15,7 @@ pub mod ReadingLoops
 pub mod ClaimLaws
 pub mod ClaimMarks
 pub mod MarkedPositions
-pub mod WritingLoops
+pub mod ClaimBytes
 pub mod RoundTrip
 pub mod PositionsOfMarks
 pub mod ClaimIsModel

@@ -48,7 +48,7 @@ use Rattle.claim_files.proofs.PositionLaws.{
   positions-ascending,
 }
 use Rattle.claim_files.proofs.ClaimLaws.{claim-got, claim-counted}
-use Rattle.claim_files.proofs.WritingLoops.{bytes-none, bytes-more, bytes-claim}
+use Rattle.claim_files.proofs.ClaimBytes.{bytes-none, bytes-more, bytes-claim}
 
 pub claim-ascending : (w : ℕ) (s ps : List ℕ) (n : ℕ) → claimAt w s ≡ got ps n → Ascending w ps
 claim-ascending w s ps n e = let r = claim-got w s ps n e in positions-ascending w s (r .k) 0 0 (r .at) ps n (r .listed)

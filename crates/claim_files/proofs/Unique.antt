@@ -1,5 +1,5 @@
 -- Two results that a contract allows are equal, the answer and every byte lent: for each public function, of its contract as the prover reads it
--- from the source (`Post`). All but one are equations. The memory that `mark_claim` leaves is told byte by byte, so two are equal byte by byte.
+-- from the source (`Post`). What `read_claim` answers is an equation; the memory that `mark_claim` leaves is told byte by byte, so two are equal so.
 -- Assumes nothing.
 use mathlib.Core.Path.{_≡_}
 use mathlib.Core.List.{List}
@@ -12,22 +12,14 @@ use denote.Triple.Clauses.{AtExit}
 use borrow.Fn.Kinds.{Dens, resT, endedOf}
 use Rattle.numbers.proofs.Unique.{same, Fixes}
 use Rattle.model.proofs.Unique.{says-same}
-use Rattle.claim_files.specs.ClaimAnswers.{ClaimPut}
 use Rattle.claim_files.specs.Marks.{Marks}
 use Rattle.claim_files.proofs.reading.read_claim.Reads as read-claim
 use Rattle.claim_files.proofs.reading.read_claim.Kinds as read-claim-kinds
 use Rattle.claim_files.proofs.reading.mark_claim.Reads as mark-claim
 use Rattle.claim_files.proofs.reading.mark_claim.Kinds as mark-claim-kinds
-use Rattle.claim_files.proofs.writing.claim_width.Reads as claim-width
-use Rattle.claim_files.proofs.writing.claim_width.Kinds as claim-width-kinds
-use Rattle.claim_files.proofs.writing.put_claim.Reads as put-claim
-use Rattle.claim_files.proofs.writing.put_claim.Kinds as put-claim-kinds
 
 pub read-claim-fixes : Fixes read-claim-kinds.ps read-claim-kinds.r read-claim.Post
 read-claim-fixes κs a x x′ s s′ = same
-
-pub claim-width-fixes : Fixes claim-width-kinds.ps claim-width-kinds.r claim-width.Post
-claim-width-fixes κs a x x′ s s′ = same
 
 -- ---- a memory that marks positions
 
@@ -40,14 +32,3 @@ pub mark-claim-fixes : (κs : Lfts 2) (a : Dens κs mark-claim-kinds.ps) (x x′
     (s s′ : AtExit (endedOf 2 mark-claim-kinds.ps mark-claim-kinds.r) κs)
     → mark-claim.Post κs a x s → mark-claim.Post κs a x′ s′ → now (s .1 .1 .0) ≡ now (s′ .1 .1 .0)
 mark-claim-fixes κs a x x′ s s′ = marks-unique
-
--- ---- a claim that is written
-
-pub claim-put-unique : {ps before after after′ : List ℕ} {r r′ : ℕ} → ClaimPut ps before after r → ClaimPut ps before after′ r′
-    → (r ≡ r′) × (after ≡ after′)
-claim-put-unique p q = (same (p .count) (q .count), same (p .bytes) (q .bytes))
-
-pub put-claim-fixes : (κs : Lfts 2) (a : Dens κs put-claim-kinds.ps) (x x′ : ℕ)
-    (s s′ : AtExit (endedOf 2 put-claim-kinds.ps put-claim-kinds.r) κs)
-    → put-claim.Post κs a x s → put-claim.Post κs a x′ s′ → (x ≡ x′) × (now (s .1 .1 .0) ≡ now (s′ .1 .1 .0))
-put-claim-fixes κs a x x′ s s′ = claim-put-unique

@@ -1,5 +1,4 @@
--- What reading and writing a claim answer and leave (document 01, "Working memory and claims"). Only contracts of functions that ask for a memory, a
--- claim or space cite it.
+-- What reading a claim answers (document 01, "Working memory and claims"). Only contracts of functions that ask for a memory or a claim cite it.
 use Prim.Native.Nat.{ℕ}
 use mathlib.Core.Path.{_≡_}
 use mathlib.Core.List.{List, []}
@@ -24,8 +23,3 @@ claimedOf (bad r) = claimed.Refused r
 abbrev pub positionsOf : Out (List ℕ) → List ℕ
 positionsOf (got ps next) = ps
 positionsOf (bad r) = []
-
--- The claim of ps is written: `after` is `before` with its bytes at the start and no other byte changed, and r is how many bytes that is.
-pub record ClaimPut (ps before after : List ℕ) (r : ℕ) : Type 0 where
-  pub bytes : after ≡ sets before 0 (claimBytes ps)
-  pub count : r ≡ length (claimBytes ps)

@@ -1,10 +1,10 @@
 -- What a claim file means (document 01, "Working memory and claims"). The contracts of the calls cite
 --   ClaimFile     the positions that a file claims, or the refusal; the bytes of a claim
--- those of the functions that ask for a memory, a claim or space besides
---   ClaimAnswers  what reading and writing a claim answer and leave
+-- those of the functions that ask for a memory or a claim besides
+--   ClaimAnswers  what reading a claim answers
 --   Marks         the positions that are marked in a memory, and a memory that marks given positions
 -- and the private ones besides
---   Stages        what the parts of reading and writing answer
+--   Stages        a memory while it is marked; the bytes of a part of a claim
 pub mod ClaimFile
 pub mod ClaimAnswers
 pub mod Marks

@@ -3,7 +3,6 @@ use mathlib.Core.List.{List, [], _∷_}
 use Prim.Native.Nat.{ℕ}
 use lib.ListN.{length}
 use Rattle.store.specs.Marking.{marked}
-use Rattle.claim_files.specs.declared.writing.Sizes.{Sizes}
 use Rattle.claim_files.specs.ClaimFile.{distancesFrom, bytesOfAll}
 
 -- the memory with a mark put at each position of a list
@@ -14,7 +13,3 @@ markedAll mem (p ∷ ps) = markedAll (marked mem p) ps
 -- the bytes of the positions of a claim, the first as its distance from `last`
 unfoldable pub positionBytes : ℕ → List ℕ → List ℕ
 positionBytes last ps = bytesOfAll (distancesFrom last ps)
-
--- how many positions there are, and how many bytes they take in a claim
-abbrev pub sizesOf : List ℕ → Sizes
-sizesOf ps = record { count = length ps; width = length (positionBytes 0 ps) }

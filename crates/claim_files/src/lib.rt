@@ -1,3 +1,2 @@
-// Claim files (document 01, "Working memory and claims"): a claim that is read into working memory, and one that is written from it.
+// Claim files (document 01, "Working memory and claims"): a claim that is read into working memory.
 pub mod reading;
-pub mod writing;

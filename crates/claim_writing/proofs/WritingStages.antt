@@ -16,7 +16,7 @@ use Rattle.verdict.specs.declared.search.Verdict.{Verdict}
 use Rattle.rules.specs.declared.answer.Answer.the-variants.{Done}
 use Rattle.rules.specs.Checking.{Checked}
 use Rattle.rules.proofs.Exactly.{check-done}
-use Rattle.claim_files.specs.ClaimAnswers.{ClaimPut}
+use Rattle.claim_bytes.specs.Writing.{ClaimPut}
 use Rattle.claim_files.specs.Marks.{positionsIn}
 use Rattle.claim_writing.specs.declared.answer.WriteAnswer.{WriteAnswer}
 use Rattle.claim_writing.specs.declared.answer.WriteAnswer.the-variants.{Written, NoSpace}

@@ -7,10 +7,11 @@ ghost use Rattle.numbers.specs.Writing.{bytesOf};
 ghost use Rattle.numbers.specs.Putting.{Put};
 ghost use Rattle.files.specs.Table.{mostFacts};
 ghost use Rattle.store.specs.Marking.{room};
 ghost use Rattle.claim_files.specs.ClaimFile.{claimBytes};
-ghost use Rattle.claim_files.specs.ClaimAnswers.{ClaimPut};
+ghost use Rattle.claim_bytes.specs.Writing.{ClaimPut};
 ghost use Rattle.claim_files.specs.Marks.{positionsIn};
-ghost use Rattle.claim_files.specs.Stages.{positionBytes, sizesOf};
+ghost use Rattle.claim_files.specs.Stages.{positionBytes};
+ghost use Rattle.claim_bytes.specs.Stages.{sizesOf};
 use store::marks::next_mark;
 
 // The version of a claim.

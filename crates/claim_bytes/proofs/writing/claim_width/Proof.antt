@@ -3,9 +3,9 @@
 use borrow.Author.Needs.{needs}
 use native.Mathlib.Omega.{arith}
 use Rattle.numbers.proofs.WritingLaws.{one-to-four-bytes}
-use Rattle.claim_files.proofs.WritingLoops.{sizes-small, sizes-claim}
-use Rattle.claim_files.proofs.writing.claim_width.Statement.{statement}
-use Rattle.claim_files.proofs.writing.claim_width.Tie as tie
+use Rattle.claim_bytes.proofs.WritingLoops.{sizes-small, sizes-claim}
+use Rattle.claim_bytes.proofs.writing.claim_width.Statement.{statement}
+use Rattle.claim_bytes.proofs.writing.claim_width.Tie as tie
 
 sizes-of-requires : tie.Need-sizes-of-requires
 sizes-of-requires c κs = search needs

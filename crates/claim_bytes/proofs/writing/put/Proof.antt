@@ -4,8 +4,8 @@ use borrow.Author.Needs.{needs}
 use native.Mathlib.Omega.{arith}
 use mathlib.Core.Path.{sym, _∙_}
 use Rattle.numbers.proofs.WritingLaws.{put-room}
-use Rattle.claim_files.proofs.writing.put.Statement.{statement}
-use Rattle.claim_files.proofs.writing.put.Tie as tie
+use Rattle.claim_bytes.proofs.writing.put.Statement.{statement}
+use Rattle.claim_bytes.proofs.writing.put.Tie as tie
 
 cast-put-number : tie.Need-cast-put-number
 cast-put-number c = search needs

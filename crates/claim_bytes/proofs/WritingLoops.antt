@@ -1,4 +1,4 @@
--- The invariants of the loops over the marked positions, and how the bytes of a claim are put together.
+-- The invariants of the loops over the marked positions.
 -- Assumes nothing.
 use mathlib.Core.Path.{_≡_, refl, sym, ap, _∙_}
 use mathlib.Core.List.{List, [], _∷_, _++_, flatMap}
@@ -12,40 +12,22 @@ use Rattle.numbers.proofs.WritingLaws.{one-to-four-bytes}
 use Rattle.numbers.specs.Putting.{Put}
 use Rattle.numbers.proofs.PutLaws.{sets-append, put-then}
 use Rattle.store.specs.Marking.{NextMark}
-use Rattle.claim_files.specs.declared.writing.Sizes.{Sizes}
+use Rattle.claim_bytes.specs.declared.writing.Sizes.{Sizes}
 use Rattle.claim_files.specs.ClaimFile.{distancesFrom, bytesOfAll, claimBytes}
-use Rattle.claim_files.specs.ClaimAnswers.{ClaimPut}
+use Rattle.claim_bytes.specs.Writing.{ClaimPut}
 use Rattle.claim_files.specs.Marks.{markedFrom, positionsIn}
-use Rattle.claim_files.specs.Stages.{positionBytes, sizesOf}
+use Rattle.claim_files.specs.Stages.{positionBytes}
+use Rattle.claim_bytes.specs.Stages.{sizesOf}
+use Rattle.claim_files.proofs.ClaimBytes.{bytes-none, bytes-more, bytes-claim, bytes-most}
 use Rattle.claim_files.proofs.MarkedPositions.{Coming, coming, positions-most}
 
--- ---- the bytes of positions
-
-pub bytes-none : (last : ℕ) → positionBytes last [] ≡ []
-unfolding positionBytes distancesFrom bytesOfAll flatMap
-bytes-none last = refl
-
-pub bytes-more : (last p : ℕ) (ps : List ℕ) → positionBytes last (p ∷ ps) ≡ bytesOf (p - last) ++ positionBytes p ps
-unfolding positionBytes distancesFrom bytesOfAll flatMap
-bytes-more last p ps = refl
-
-pub bytes-claim : (ps : List ℕ) → claimBytes ps ≡ bytesOf 1 ++ (bytesOf (length ps) ++ positionBytes 0 ps)
-unfolding claimBytes positionBytes bytesOfAll flatMap
-bytes-claim ps = refl
-
--- each takes four bytes at most
-pub bytes-most : (last : ℕ) (ps : List ℕ) → length (positionBytes last ps) ≤ 4 * length ps
-bytes-most last [] = rw bytes-none (omega arith)
-bytes-most last (p ∷ ps) =
-    rw (bytes-more last p ps, length-append) (omega (arith, bytes-most p ps, one-to-four-bytes (p - last)))
+-- ---- the loop that counts
 
 pub record Sizing (mem : List ℕ) (w count width last p : ℕ) : Type 0 where
   pub rest : List ℕ
   pub ahead : Coming mem w last p rest
   pub counted : length (positionsIn w mem) ≡ count + length rest
   pub wide : length (positionBytes 0 (positionsIn w mem)) ≡ width + length (positionBytes last rest)
-
--- ---- the loop that counts
 
 -- the positions of the memory are those from 0 on
 from-zero : (mem : List ℕ) (w : ℕ) → markedFrom mem 0 (w - 0) ≡ positionsIn w mem

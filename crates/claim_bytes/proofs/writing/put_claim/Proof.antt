@@ -3,9 +3,9 @@
 -- Assumes nothing.
 use borrow.Author.Needs.{needs}
 use native.Mathlib.Omega.{arith}
-use Rattle.claim_files.proofs.WritingLoops.{sizes-count, sizes-width, sizes-small, sizes-claim, claim-put}
-use Rattle.claim_files.proofs.writing.put_claim.Statement.{statement}
-use Rattle.claim_files.proofs.writing.put_claim.Tie as tie
+use Rattle.claim_bytes.proofs.WritingLoops.{sizes-count, sizes-width, sizes-small, sizes-claim, claim-put}
+use Rattle.claim_bytes.proofs.writing.put_claim.Statement.{statement}
+use Rattle.claim_bytes.proofs.writing.put_claim.Tie as tie
 
 sizes-of-requires : tie.Need-sizes-of-requires
 sizes-of-requires c κs = search needs

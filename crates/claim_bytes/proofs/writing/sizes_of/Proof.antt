@@ -4,9 +4,9 @@ use borrow.Author.Needs.{needs}
 use Prim.Native.Nat.{_-_}
 use native.Mathlib.Omega.{arith}
 use Rattle.store.proofs.NextLaws.{next-past}
-use Rattle.claim_files.proofs.WritingLoops.{Sizing, size-start, size-small, size-more, size-end}
-use Rattle.claim_files.proofs.writing.sizes_of.Statement.{statement}
-use Rattle.claim_files.proofs.writing.sizes_of.Tie as tie
+use Rattle.claim_bytes.proofs.WritingLoops.{Sizing, size-start, size-small, size-more, size-end}
+use Rattle.claim_bytes.proofs.writing.sizes_of.Statement.{statement}
+use Rattle.claim_bytes.proofs.writing.sizes_of.Tie as tie
 
 abbrev Inv-loop : tie.InvT-loop
 Inv-loop mem w count₀ width₀ last₀ p₀ count width last p = Sizing mem w count width last p

@@ -4,9 +4,9 @@ use borrow.Author.Needs.{needs}
 use Prim.Native.Nat.{_-_}
 use native.Mathlib.Omega.{arith}
 use Rattle.store.proofs.NextLaws.{next-past}
-use Rattle.claim_files.proofs.WritingLoops.{Writing, write-start, write-room, write-more, write-end}
-use Rattle.claim_files.proofs.writing.put_positions.Statement.{statement}
-use Rattle.claim_files.proofs.writing.put_positions.Tie as tie
+use Rattle.claim_bytes.proofs.WritingLoops.{Writing, write-start, write-room, write-more, write-end}
+use Rattle.claim_bytes.proofs.writing.put_positions.Statement.{statement}
+use Rattle.claim_bytes.proofs.writing.put_positions.Tie as tie
 
 abbrev Inv-loop : tie.InvT-loop
 Inv-loop mem w space₀ at next₀ last₀ p₀ space next last p = Writing mem w at space₀ space next last p
