@@ -1,17 +1,11 @@
 -- The laws of the crate. Callers cite Answers: the only answer, the verdict on the facts that a memory holds, and the smallest row. The others
 -- are what the functions' proofs cite:
 --   Lists     the order of lists, and what stands at a number of a list
---   Numbers   the smallest and the last number of a set
---   CellLaws  what a cell fits, and the cell of a thread in a row
---   Reaching  the tests of reach
 --   Smallest  each thread's smallest store for its cell makes the smallest list
 --   OfTable   what is said of the lent bytes is said of the table
 --   OneRow    what a row allows at a shared store
 --   Progress  how the search goes on from row to row, from store to store, from thread to thread
 pub mod Lists
-pub mod Numbers
-pub mod CellLaws
-pub mod Reaching
 pub mod Smallest
 pub mod OfTable
 pub mod OneRow

@@ -18,10 +18,10 @@ use Rattle.positions.specs.Plans.{Planned, planOf}
 use Rattle.store.proofs.MarkLaws.{marked-has, has-marked}
 use Rattle.positions.proofs.PlanIsModel.{planned, pos-p, pos-p-to, pair-fits}
 use Rattle.model.proofs.Lists.{some-lt}
-use Rattle.verdict.specs.ErrorRows.{rowCell, ErrorsOf}
-use Rattle.verdict.specs.Search.{Reached}
+use Rattle.verdict.specs.ErrorRows.{ErrorsOf}
+use Rattle.reaching.specs.Search.{rowCell, Reached}
 use Rattle.verdict.proofs.Lists.{some-getD, getD-some}
-use Rattle.verdict.proofs.CellLaws.{cell-eq}
+use Rattle.reaching.proofs.CellLaws.{cell-eq}
 
 -- ---- what is lent is in range
 

@@ -15,7 +15,7 @@ use Rattle.model.specs.Memory.{Marked}
 use Rattle.model.specs.Claims.{First}
 use Rattle.positions.specs.declared.plan.Plan.{Plan}
 use Rattle.verdict.specs.ErrorRows.{ErrorsOf}
-use Rattle.verdict.specs.Search.{
+use Rattle.reaching.specs.Search.{
   Reached,
   Choice,
   here,
@@ -29,8 +29,8 @@ use Rattle.verdict.specs.Search.{
   fit,
   cellAt,
 }
-use Rattle.verdict.proofs.Numbers.{picked-reaches, picked-none}
-use Rattle.verdict.proofs.CellLaws.{cell-eq, own-cell, other-cell, file-cell}
+use Rattle.reaching.proofs.Numbers.{picked-reaches, picked-none}
+use Rattle.reaching.proofs.CellLaws.{cell-eq, own-cell, other-cell, file-cell}
 use Rattle.verdict.proofs.Smallest.{each-least, own-fails, fails-least}
 use Rattle.verdict.proofs.OfTable.{
   EachReaches,
@@ -64,7 +64,7 @@ pub record AimedAt (s : Plan) (failed : ℕ) (rows : List ℕ) (n : ℕ) (m : Li
 
 pub aimed-lt : {s : Plan} {failed : ℕ} {rows m : List ℕ} {row g u : ℕ} → 0 < s .n → Aimed s failed rows m row g u → ¬ (u ≡ s .n) → u < s .n
 aimed-lt p (no-failed z e q) ne = absurd (ne q)
-aimed-lt p (picked k z fk (already l f)) ne = l
+aimed-lt p (picked k z fk (already l f none)) ne = l
 aimed-lt p (picked k z fk (forced x (here l a h))) ne = l
 aimed-lt p (picked k z fk (forced x (nowhere e h))) ne = absurd (ne e)
 aimed-lt p (unfit i z c q) ne = absurd (ne q)

@@ -19,9 +19,9 @@ use Rattle.positions.specs.declared.plan.Plan.{Plan}
 use Rattle.verdict.specs.declared.search.Verdict.the-variants.{Safe, Possible}
 use Rattle.files.proofs.TableLaws.{four-numbers}
 use Rattle.verdict.specs.ErrorRows.{ErrorsOf, Judged}
-use Rattle.verdict.specs.Search.{Reached, Choice, Least, cellAt}
+use Rattle.reaching.specs.Search.{Reached, Choice, Least, cellAt}
 use Rattle.verdict.proofs.Lists.{≼-cons}
-use Rattle.verdict.proofs.Numbers.{least-first, least-none}
+use Rattle.reaching.proofs.Numbers.{least-first, least-none}
 use Rattle.verdict.proofs.OfTable.{threads, row-le, allows-reached}
 use Rattle.verdict.proofs.OneRow.{Allowed, NoneAt, StoreFor, AimedAt, stuck-none, smallest-allowed, smallest-least}
 

@@ -13,10 +13,10 @@ use native.Mathlib.Omega.{arith}
 use lib.ListN.{length, getD}
 use Rattle.model.specs.Verdict.{_≼_}
 use Rattle.model.specs.Claims.{First}
-use Rattle.verdict.specs.Search.{Choice, here, nowhere, Picked, already, forced}
+use Rattle.reaching.specs.Search.{Choice, here, nowhere, Picked, already, forced}
 use Rattle.verdict.proofs.Lists.{Agree, ≼-where-agree}
-use Rattle.verdict.proofs.Numbers.{first-le}
-use Rattle.verdict.proofs.CellLaws.{cell-one}
+use Rattle.reaching.proofs.Numbers.{first-le}
+use Rattle.reaching.proofs.CellLaws.{cell-one}
 
 module _ {n : ℕ} {R : ℕ → ℕ → Type 0} (C : ℕ → ℕ) (ls : List ℕ) (count : length ls ≡ n)
     (all : (t : ℕ) → t < n → First (Choice (R t) (C t)) (getD ls t 0)) where
@@ -39,7 +39,7 @@ module _ {n : ℕ} {R : ℕ → ℕ → Type 0} (C : ℕ → ℕ) (ls : List ℕ
     module _ (p : Picked R n k u) (vs : List ℕ) (reached : (t : ℕ) → t < n → R t (getD vs t 0)) (v : ℕ) (vl : v < n)
         (fails : getD vs v 0 ≡ k) where
       own-le : Picked R n k u → Agree ls vs u → k ≤ getD vs u 0
-      own-le (already l f) same = first-le f (reached u ul)
+      own-le (already l f none) same = first-le f (reached u ul)
       own-le (forced none (nowhere e h)) same = absurd (omega arith)
       own-le (forced none (here l a h)) same = go (decLt u v) (decLt v u)
         where

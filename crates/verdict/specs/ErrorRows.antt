@@ -2,18 +2,15 @@
 -- (01, "The rules"). Only the contract of `judge`, which asks for such rows, and those of private functions cite it.
 use mathlib.Core.Path.{_≡_}
 use mathlib.Core.List.{List}
-use Prim.Native.Nat.{ℕ, _+_, _*_, _<_}
+use Prim.Native.Nat.{ℕ, _<_}
 use lib.ListN.{length, getD}
 use Rattle.files.specs.Table.{Table, Sound, Error, errorCells}
 use Rattle.model.specs.Memory.{Marked}
 use Rattle.positions.specs.declared.plan.Plan.{Plan}
 use Rattle.positions.specs.Plans.{planOf}
+use Rattle.reaching.specs.Search.{rowCell}
 use Rattle.verdict.specs.declared.search.Verdict.{Verdict}
 use Rattle.verdict.specs.Judged.{Answers}
-
--- cell j of row i, where the rows stand in a list of bytes, five to a row
-abbrev pub rowCell : List ℕ → ℕ → ℕ → ℕ
-rowCell rows i j = getD rows (5 * i + j) 0
 
 -- What is lent is a table's: its plan, its failed cell, and its n error rows, cell by cell in file order. The table has every row that is asked
 -- for, so d, which would stand for a row past the last, may be any.

@@ -1,4 +1,2 @@
 // The verdict on a memory of marks, with the smallest witness of an error that the marked facts allow.
-mod cells;
-mod reach;
 pub mod search;

@@ -6,10 +6,10 @@ ghost use lib.ListN.{length, getD};
 ghost use Rattle.files.specs.Table.{Table};
 ghost use Rattle.store.specs.Marking.{room};
 ghost use Rattle.verdict.specs.ErrorRows.{ErrorsOf, Judged};
-use crate::cells::aim;
-use crate::cells::cell_of;
-use crate::reach::least;
 use positions::plan::Plan;
+use reaching::cells::aim;
+use reaching::cells::cell_of;
+use reaching::reach::least;
 
 // The verdict. The witness of a possible error is its row, its shared store g, and the local stores of threads 0 to 3, with 0 for a thread
 // that is not there.

@@ -1,16 +1,20 @@
--- What the private functions answer: the local stores that a thread reaches, the smallest that a cell fits, and the cells that a row asks of the
--- threads at a shared store. The public contract cites none of it.
+-- The local stores that a thread reaches, the smallest that a cell fits, and the cells that a row asks of the threads at a shared store (01, "Runs
+-- and error states", "The rules"). Only contracts of functions that ask for a plan, a memory or rows cite it.
 use mathlib.Core.Path.{_≡_}
 use mathlib.Core.Logic.{ite}
 use mathlib.Core.List.{List}
 use Prim.Native.Nat.{ℕ, zero, suc, _+_, _*_, _<_}
 use native.Mathlib.Decide.{ℕ-discrete}
+use lib.ListN.{getD}
 use Rattle.model.specs.Errors.{Cell}
 use Rattle.model.specs.Claims.{First}
 use Rattle.positions.specs.declared.plan.Plan.{Plan}
 use Rattle.positions.specs.Plans.{pair, pAt}
 use Rattle.store.specs.Marking.{Has}
-use Rattle.verdict.specs.ErrorRows.{rowCell}
+
+-- cell j of row i, where the rows stand in a list of bytes, five to a row
+abbrev pub rowCell : List ℕ → ℕ → ℕ → ℕ
+rowCell rows i j = getD rows (5 * i + j) 0
 
 -- at g thread t reaches l ("some P of t ends there"): the P fact from some pair j to g, l is marked
 pub record Reached (s : Plan) (m : List ℕ) (g t l : ℕ) : Type 0 where
@@ -34,10 +38,10 @@ pub data Last (A : ℕ → Type 0) (n t u : ℕ) : Type 0 where
   here : u < t → A u → ((i : ℕ) → u < i → i < t → ¬ A i) → Last A n t u
   nowhere : u ≡ n → ((i : ℕ) → i < t → ¬ A i) → Last A n t u
 
--- Of n threads, where thread t reaches the stores R t, u is the one for store k: one whose smallest store is k, else the last that reaches k,
--- else none, which is n.
+-- Of n threads, where thread t reaches the stores R t, u is the one for store k: the first whose smallest store is k, else the last that reaches
+-- k, else none, which is n.
 pub data Picked (R : ℕ → ℕ → Type 0) (n k u : ℕ) : Type 0 where
-  already : u < n → First (R u) k → Picked R n k u
+  already : u < n → First (R u) k → ((i : ℕ) → i < u → ¬ First (R i) k) → Picked R n k u
   forced : ((i : ℕ) → i < n → ¬ First (R i) k) → Last (λ i. R i k) n n u → Picked R n k u
 
 -- What aim answers for a row at g. For row 0, no thread if there is no failed store, else the one for it. For a row of the file, no thread if

@@ -3,10 +3,10 @@
 use native.Mathlib.Omega.{arith}
 use borrow.Author.Needs.{needs}
 use Rattle.store.proofs.MarkLaws.{is-true, is-false}
-use Rattle.verdict.specs.Search.{here}
-use Rattle.verdict.proofs.Numbers.{last-stays}
-use Rattle.verdict.proofs.cells.later.Statement.{statement}
-use Rattle.verdict.proofs.cells.later.Tie as tie
+use Rattle.reaching.specs.Search.{here}
+use Rattle.reaching.proofs.Numbers.{last-stays}
+use Rattle.reaching.proofs.cells.later.Statement.{statement}
+use Rattle.reaching.proofs.cells.later.Tie as tie
 
 reached-requires : tie.Need-reached-requires
 reached-requires c κs = search needs

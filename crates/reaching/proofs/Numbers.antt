@@ -5,7 +5,7 @@ use Prim.Native.Nat.{ℕ, _+_, _≤_, _<_}
 use native.Mathlib.Omega.{arith}
 use borrow.Author.Count.{below-more}
 use Rattle.model.specs.Claims.{First}
-use Rattle.verdict.specs.Search.{Least, smallest, nothing, Last, here, nowhere, Picked, already, forced}
+use Rattle.reaching.specs.Search.{Least, smallest, nothing, Last, here, nowhere, Picked, already, forced}
 
 -- ---- the smallest number
 
@@ -42,11 +42,11 @@ last-not {t} (nowhere e h) ne = h t (omega arith)
 
 module _ {R : ℕ → ℕ → Type 0} {n k u : ℕ} where
   pub picked-reaches : Picked R n k u → u < n → R u k
-  picked-reaches (already l f) h = f .here
+  picked-reaches (already l f none) h = f .here
   picked-reaches (forced x (here l a y)) h = a
   picked-reaches (forced x (nowhere e y)) h = absurd (omega arith)
 
   pub picked-none : Picked R n k u → u ≡ n → (t : ℕ) → t < n → ¬ R t k
-  picked-none (already l f) e = absurd (omega arith)
+  picked-none (already l f none) e = absurd (omega arith)
   picked-none (forced x (here l a y)) e = absurd (omega arith)
   picked-none (forced x (nowhere e′ y)) e = y

@@ -3,10 +3,10 @@
 use borrow.Author.Needs.{needs}
 use borrow.Author.Tests.{not-true, not-false}
 use Rattle.store.proofs.MarkLaws.{is-true, is-false}
-use Rattle.verdict.specs.Search.{Reached}
-use Rattle.verdict.proofs.Reaching.{choice-test}
-use Rattle.verdict.proofs.reach.choice.Statement.{statement}
-use Rattle.verdict.proofs.reach.choice.Tie as tie
+use Rattle.reaching.specs.Search.{Reached}
+use Rattle.reaching.proofs.Reaching.{choice-test}
+use Rattle.reaching.proofs.reach.choice.Statement.{statement}
+use Rattle.reaching.proofs.reach.choice.Tie as tie
 
 cell-fits-requires : tie.Need-cell-fits-requires
 cell-fits-requires c κs = search needs

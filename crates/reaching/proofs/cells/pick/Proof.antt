@@ -7,11 +7,11 @@ use Prim.Native.Nat.{ℕ, _-_, _≤_, _<_}
 use native.Mathlib.Omega.{arith}
 use borrow.Author.Needs.{needs}
 use Rattle.model.specs.Claims.{First}
-use Rattle.verdict.specs.Search.{Reached, Last, nowhere, already, forced}
-use Rattle.verdict.proofs.Numbers.{none-more, last-not}
-use Rattle.verdict.proofs.Reaching.{any-is-first, any-not-first}
-use Rattle.verdict.proofs.cells.pick.Statement.{statement}
-use Rattle.verdict.proofs.cells.pick.Tie as tie
+use Rattle.reaching.specs.Search.{Reached, Last, nowhere, already, forced}
+use Rattle.reaching.proofs.Numbers.{none-more, last-not}
+use Rattle.reaching.proofs.Reaching.{any-is-first, any-not-first}
+use Rattle.reaching.proofs.cells.pick.Statement.{statement}
+use Rattle.reaching.proofs.cells.pick.Tie as tie
 
 abbrev Inv-loop : tie.InvT-loop
 Inv-loop s mem g k n u₀ t₀ u t =
@@ -35,6 +35,7 @@ returns : tie.Need-returns Inv-loop μ-loop
 returns c =
     let start = c .before .before .before .before .before .before .before in
     already (c .before .before .before .before .loop-test .taken) (any-is-first (c .before .least .ensures) (c .if2 .taken) (start .pre .3))
+    (c .before .before .before .before .before .loop .inv .1)
 
 add-t : tie.Need-add-t Inv-loop μ-loop
 add-t c = search needs

@@ -6,7 +6,7 @@ ghost use lib.ListN.{length};
 ghost use Rattle.files.specs.Table.{mostThreads, mostErrors};
 ghost use Rattle.positions.specs.Plans.{Planned};
 ghost use Rattle.store.specs.Marking.{room};
-ghost use Rattle.verdict.specs.Search.{Reached, Last, Picked, Aimed, cellAt};
+ghost use Rattle.reaching.specs.Search.{Reached, Last, Picked, Aimed, cellAt};
 use crate::reach::cell_fits;
 use crate::reach::least;
 use crate::reach::reached;
@@ -25,7 +25,7 @@ fn later(s: Plan, mem: &[u8], t: usize, g: usize, l: usize, u: usize) -> usize
     u
 }
 
-// The thread that is to be in the failed store k at g: one whose smallest store that is; else the last that reaches it; else the number of
+// The thread that is to be in the failed store k at g: the first whose smallest store that is; else the last that reaches it; else the number of
 // threads.
 fn pick(s: Plan, mem: &[u8], g: usize, k: usize) -> usize
     requires { ⌜ Planned s × (s .w ≤ room (now mem)) × (g < s .g) × (k < s .l) ⌝ }

@@ -5,10 +5,10 @@ use Prim.Native.Nat.{ℕ, _-_, _≤_, _<_}
 use native.Mathlib.Omega.{arith}
 use borrow.Author.Needs.{needs}
 use Rattle.store.proofs.MarkLaws.{is-true, is-false}
-use Rattle.verdict.specs.Search.{Reached, Choice, smallest, nothing}
-use Rattle.verdict.proofs.Numbers.{none-more}
-use Rattle.verdict.proofs.reach.least.Statement.{statement}
-use Rattle.verdict.proofs.reach.least.Tie as tie
+use Rattle.reaching.specs.Search.{Reached, Choice, smallest, nothing}
+use Rattle.reaching.proofs.Numbers.{none-more}
+use Rattle.reaching.proofs.reach.least.Statement.{statement}
+use Rattle.reaching.proofs.reach.least.Tie as tie
 
 abbrev Inv-loop : tie.InvT-loop
 Inv-loop s mem t g cell n l₀ l = (l ≤ n) × ((q : ℕ) → q < l → ¬ Choice (Reached s mem g t) cell q)

@@ -12,8 +12,8 @@ use Rattle.model.proofs.Unique.{first-same}
 use Rattle.positions.specs.declared.plan.Plan.{Plan}
 use Rattle.positions.specs.Plans.{pair, pAt}
 use Rattle.store.specs.Marking.{Has, Is}
-use Rattle.verdict.specs.Search.{Reached, Choice, Least, smallest, nothing}
-use Rattle.verdict.proofs.Numbers.{least-first}
+use Rattle.reaching.specs.Search.{Reached, Choice, Least, smallest, nothing}
+use Rattle.reaching.proofs.Numbers.{least-first}
 
 -- x is where the P facts of t begin that end at g, l
 module _ {s : Plan} {m : List ℕ} {g t l : ℕ} (x : ℕ) (at-x : x ≡ pAt s t (pair s g l)) (j : ℕ) where

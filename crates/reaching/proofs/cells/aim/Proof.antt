@@ -5,11 +5,11 @@ use Prim.Native.Nat.{_-_}
 use native.Mathlib.Omega.{arith}
 use borrow.Author.Needs.{needs}
 use Rattle.store.proofs.MarkLaws.{is-true, is-false}
-use Rattle.verdict.specs.ErrorRows.{rowCell}
-use Rattle.verdict.specs.Search.{no-failed, picked, unfit, fit}
-use Rattle.verdict.proofs.CellLaws.{cell-eq, shared-cell}
-use Rattle.verdict.proofs.cells.aim.Statement.{statement}
-use Rattle.verdict.proofs.cells.aim.Tie as tie
+use Rattle.reaching.specs.Search.{rowCell}
+use Rattle.reaching.specs.Search.{no-failed, picked, unfit, fit}
+use Rattle.reaching.proofs.CellLaws.{cell-eq, shared-cell}
+use Rattle.reaching.proofs.cells.aim.Statement.{statement}
+use Rattle.reaching.proofs.cells.aim.Tie as tie
 
 -- the cell that is read is the row's shared cell
 is-shared : (c : tie.After-cell) → let a = c .before .before .before .before .args in c .cell .result ≡ rowCell (a .rows .now) (a .row - 1) 0

@@ -2,9 +2,9 @@
 -- Assumes nothing.
 use mathlib.Core.Logic.{inl}
 use borrow.Author.Needs.{needs}
-use Rattle.verdict.proofs.CellLaws.{fits-test}
-use Rattle.verdict.proofs.reach.cell_fits.Statement.{statement}
-use Rattle.verdict.proofs.reach.cell_fits.Tie as tie
+use Rattle.reaching.proofs.CellLaws.{fits-test}
+use Rattle.reaching.proofs.reach.cell_fits.Statement.{statement}
+use Rattle.reaching.proofs.reach.cell_fits.Tie as tie
 
 returns : tie.Need-returns
 returns c = inl (c .if1 .taken)

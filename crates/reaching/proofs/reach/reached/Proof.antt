@@ -8,10 +8,10 @@ use Rattle.positions.specs.Plans.{pAt, pair}
 use Rattle.store.specs.Marking.{Has}
 use Rattle.store.proofs.MarkLaws.{is-true, is-false}
 use Rattle.positions.proofs.Places.{p-line, ck-small, parts}
-use Rattle.verdict.proofs.Numbers.{none-more}
-use Rattle.verdict.proofs.Reaching.{mark-reached, no-mark-reached}
-use Rattle.verdict.proofs.reach.reached.Statement.{statement}
-use Rattle.verdict.proofs.reach.reached.Tie as tie
+use Rattle.reaching.proofs.Numbers.{none-more}
+use Rattle.reaching.proofs.Reaching.{mark-reached, no-mark-reached}
+use Rattle.reaching.proofs.reach.reached.Statement.{statement}
+use Rattle.reaching.proofs.reach.reached.Tie as tie
 
 abbrev Inv-loop : tie.InvT-loop
 Inv-loop mem t g l k c x j₀ j = (j ≤ k) × ((i : ℕ) → i < j → ¬ Has mem (x + i * k))

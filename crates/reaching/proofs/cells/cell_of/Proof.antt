@@ -3,9 +3,9 @@
 use mathlib.Core.Path.{sym, _∙_}
 use native.Mathlib.Omega.{arith}
 use borrow.Author.Needs.{needs}
-use Rattle.verdict.proofs.CellLaws.{own-cell, other-cell, file-cell}
-use Rattle.verdict.proofs.cells.cell_of.Statement.{statement}
-use Rattle.verdict.proofs.cells.cell_of.Tie as tie
+use Rattle.reaching.proofs.CellLaws.{own-cell, other-cell, file-cell}
+use Rattle.reaching.proofs.cells.cell_of.Statement.{statement}
+use Rattle.reaching.proofs.cells.cell_of.Tie as tie
 
 returns : tie.Need-returns
 returns c = let a = c .before .before .before .args in sym (own-cell (a .failed) (a .rows .now) (c .before .if1 .taken) (c .if2 .taken))
