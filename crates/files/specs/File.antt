@@ -71,17 +71,9 @@ abbrev pub tableReadOf : Out Table → TableRead
 tableReadOf (got T next) = record { header = headerIn T; counts = countsIn T; outcome = Accepted }
 tableReadOf (bad r) = record { header = noHeader; counts = record { steps = 0; pushes = 0; pops = 0; errors = 0 }; outcome = Refused r }
 
-abbrev pub stepBytes : Table → List ℕ
-stepBytes T = flat (map stepCells (T .steps))
-
-abbrev pub pushBytes : Table → List ℕ
-pushBytes T = flat (map pushCells (T .pushes))
-
-abbrev pub popBytes : Table → List ℕ
-popBytes T = flat (map popCells (T .pops))
-
-abbrev pub errorBytes : Table → List ℕ
-errorBytes T = flat (map errorCells (T .errors))
+-- the rows of a list, cell by cell
+abbrev pub rowBytes : {Row : Type 0} → (Row → List ℕ) → List Row → List ℕ
+rowBytes cells rows = flat (map cells rows)
 
 -- what a list's memory d holds afterwards: its rows from the start on, and after a refusal zeros
 abbrev pub heldIn : (Table → List ℕ) → Out Table → List ℕ → List ℕ
@@ -91,7 +83,7 @@ heldIn bytes (bad r) d = replicate (length d) 0
 -- the contract of the table reader: the answer, and what each memory holds
 pub record TableIs (s : List ℕ) (r : TableRead) (a b c d a′ b′ c′ d′ : List ℕ) : Type 0 where
   pub answer : r ≡ tableReadOf (tableAt s)
-  pub steps : a′ ≡ heldIn stepBytes (tableAt s) a
-  pub pushes : b′ ≡ heldIn pushBytes (tableAt s) b
-  pub pops : c′ ≡ heldIn popBytes (tableAt s) c
-  pub errors : d′ ≡ heldIn errorBytes (tableAt s) d
+  pub steps : a′ ≡ heldIn (λ T. rowBytes stepCells (T .steps)) (tableAt s) a
+  pub pushes : b′ ≡ heldIn (λ T. rowBytes pushCells (T .pushes)) (tableAt s) b
+  pub pops : c′ ≡ heldIn (λ T. rowBytes popCells (T .pops)) (tableAt s) c
+  pub errors : d′ ≡ heldIn (λ T. rowBytes errorCells (T .errors)) (tableAt s) d

@@ -6,8 +6,9 @@ use lib.ListN.{length}
 use lib.Seq.{sets}
 use Rattle.files.specs.declared.header.Header.{Header}
 use Rattle.files.specs.declared.table.Counts.{Counts}
-use Rattle.files.specs.Table.{Table, Sound, mostSteps, mostPushes, mostPops, mostErrors}
-use Rattle.files.specs.File.{headerIn, countsIn, stepBytes, pushBytes, popBytes, errorBytes}
+use Rattle.files.specs.Table.{Table, Sound, stepCells, pushCells, popCells, errorCells}
+use Rattle.files.specs.Table.{mostSteps, mostPushes, mostPops, mostErrors}
+use Rattle.files.specs.File.{headerIn, countsIn, rowBytes}
 
 -- bytes stand at the start of a memory that has room for as many rows as its list may have
 pub record Laid (most : ℕ) (bytes mem : List ℕ) : Type 0 where
@@ -19,7 +20,7 @@ pub record Stored (T : Table) (h : Header) (k : Counts) (st pu po er : List ℕ)
   pub sound : Sound T
   pub header : h ≡ headerIn T
   pub counts : k ≡ countsIn T
-  pub steps : Laid mostSteps (stepBytes T) st
-  pub pushes : Laid mostPushes (pushBytes T) pu
-  pub pops : Laid mostPops (popBytes T) po
-  pub errors : Laid mostErrors (errorBytes T) er
+  pub steps : Laid mostSteps (rowBytes stepCells (T .steps)) st
+  pub pushes : Laid mostPushes (rowBytes pushCells (T .pushes)) pu
+  pub pops : Laid mostPops (rowBytes popCells (T .pops)) po
+  pub errors : Laid mostErrors (rowBytes errorCells (T .errors)) er

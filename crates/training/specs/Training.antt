@@ -19,8 +19,7 @@ use Rattle.files.specs.Table.{Table, Step, Error}
 -- ---- lists by rule
 
 -- what f gives for each entry, one after the other
-each : {A B : Type 0} → List A → (A → List B) → List B
-unfolding flatMap
+abbrev each : {A B : Type 0} → List A → (A → List B) → List B
 each xs f = flatMap f xs
 
 -- an entry, where the test passes
@@ -83,7 +82,7 @@ racing (suc k) = 1
 
 -- two threads race
 races : List Error
-unfolding each only racing
+unfolding flatMap only racing
 races = each places λ a. each places λ b. each places λ c. only (eqb (racing a + racing b + racing c) 2) (error any a b c)
 
 -- the mutex is free, and x is still 0
@@ -95,7 +94,7 @@ unrestored = error (cell (shared 0 0)) any any any
 -- Threads, values of the mutex by two of the variable, six locations and the failed store, no frames. All threads start at location 1,
 -- with the mutex free and x = 1.
 unfoldable pub simple : List ℕ → List ℕ → (ℕ → ℕ) → List Error → Table
-unfolding each statements
+unfolding flatMap statements
 simple threads mutexes mark errors =
     record {
       n = length threads;
@@ -112,12 +111,9 @@ simple threads mutexes mark errors =
     }
 
 -- each thread has a mark of its own
-abbrev ownMark : ℕ → ℕ
-ownMark t = t + 1
-
 unfoldable pub training : Table
 unfolding simple races
-training = simple (0 ∷ 1 ∷ 2 ∷ []) (0 ∷ 1 ∷ 2 ∷ 3 ∷ []) ownMark (races ++ unrestored ∷ [])
+training = simple (0 ∷ 1 ∷ 2 ∷ []) (0 ∷ 1 ∷ 2 ∷ 3 ∷ []) (λ t. t + 1) (races ++ unrestored ∷ [])
 
 -- two threads with a true/false mutex: both put 1 into it
 unfoldable pub mutex : Table
