@@ -76,11 +76,16 @@ module _ {A B : Uses} (to : (q x y : ℕ) → A q x y → B q x y) where
       looks (record { left = k .left; least = λ h. absurd (omega (arith, k .left)); first = first-to (k .first); le = k .le })
   swept-spent e (puts p done) = puts (puts-to p) (λ h. absurd (omega arith))
 
+  -- a pass over more uses, if nothing more lacks
+  pub swept-more : {put : Bool} {b r : Pass} {m m′ : List ℕ} → ((y : ℕ) → Lacks B m y → Lacks A m y) → Swept A put b r m m′
+      → Swept B put b r m m′
+  swept-more fro (looks k) =
+      looks (record { left = k .left; least = λ h y l. k .least h y (fro y l); first = first-to (k .first); le = k .le })
+  swept-more fro (puts p done) = puts (puts-to p) (λ h e y l. done h e y (fro y l))
+
 module _ {A B : Uses} (to : (q x y : ℕ) → A q x y → B q x y) (fro : (q x y : ℕ) → B q x y → A q x y) where
   pub swept-same : {put : Bool} {b r : Pass} {m m′ : List ℕ} → Swept A put b r m m′ → Swept B put b r m m′
-  swept-same (looks k) =
-      looks (record { left = k .left; least = λ h y l. k .least h y (lacks-to fro l); first = first-to to (k .first); le = k .le })
-  swept-same (puts p done) = puts (puts-to to p) (λ h e y l. done h e y (lacks-to fro l))
+  swept-same = swept-more to (λ y. lacks-to fro)
 
 -- a pass over a set that is known by an equation
 pub swept-of : {I : Type 0} (A : I → Uses) {i j : I} {put : Bool} {b r : Pass} {m m′ : List ℕ} → i ≡ j → Swept (A i) put b r m m′

@@ -1,10 +1,9 @@
 -- Each use on a row of facts has a premise in it. So a row of facts with no mark gives nothing.
 -- Assumes nothing.
-use mathlib.Core.Path.{_≡_, refl, subst, _∙_}
+use mathlib.Core.Path.{_≡_, refl, subst}
 use mathlib.Core.Logic.{inl, inr}
 use mathlib.Core.List.{List}
-use Prim.Native.Nat.{ℕ, _+_, _*_, _/_, _%_, _<_, _≤_}
-use native.Mathlib.Nat.{mod-lt}
+use Prim.Native.Nat.{ℕ, _+_, _*_, _<_, _≤_}
 use native.Mathlib.Omega.{arith}
 use Rattle.positions.specs.declared.plan.Plan.{Plan}
 use Rattle.store.specs.declared.rows.Row.{Row}
@@ -15,7 +14,7 @@ use Rattle.positions.proofs.Places.{pair-lt, q-row, cut}
 use Rattle.uses.specs.declared.kinds.Kind.the-variants.{Push, Pop}
 use Rattle.uses.specs.Ranges.{EachIn}
 use Rattle.uses.specs.Uses.{Single, Either, Upto}
-use Rattle.uses.specs.RuleUses.{StepUses, RowUses, CallUse, MovedUse}
+use Rattle.uses.specs.RuleUses.{StepUses, RowUses, CallUse, MovedFrom}
 
 -- two uses of one mark
 from-one : {x y y′ q z w : ℕ} → Either (Single x y) (Single x y′) q z w → z ≡ x
@@ -30,6 +29,10 @@ module _ (m : List ℕ) where
   -- a mark among the places of a part is one among those of the whole
   pub some-part : (x y : ℕ) {n k : ℕ} (d : ℕ) → y ≡ x + d → d + k ≤ n → SomeIn m y k → SomeIn m x n
   some-part x y d e l s = some-at x (d + s .j) (omega (arith, s .lt)) (omega arith) (s .here)
+
+  -- rules 2 and 3, from the shared store g
+  pub moved-from-in : (s : Plan) (t x g : ℕ) {q z y : ℕ} → MovedFrom s t x g q z y → Has m z → SomeIn m (x + g * s .l) (s .l)
+  moved-from-in s t x g u hz = let v = u .given .given .1 .1 in some-at _ (v .k) (v .lt) (v .given .1) hz
 
   module _ {s : Plan} (h : Planned s) where
     -- rule 4
@@ -55,9 +58,5 @@ module _ (m : List ℕ) where
     calls-in t x u hq = some-at _ (u .k) (u .lt) (u .given .0) hq
 
     -- rules 2 and 3
-    pub moved-in : (t x : ℕ) {q z y : ℕ} → Upto (MovedUse s t x) (s .p) q z y → Has m z → SomeIn m x (s .k)
-    moved-in t x u hz =
-        let i = u .k in
-        let v = u .given .1 .1 in
-        some-at x (i / s .g % s .g * s .l + v .k) (omega (arith, cut h (i / s .g % s .g) (mod-lt _ (h .g-pos)), v .lt))
-        (v .given .1 ∙ omega arith) hz
+    pub moved-in : (t x : ℕ) {q z y : ℕ} → Upto (MovedFrom s t x) (s .g) q z y → Has m z → SomeIn m x (s .k)
+    moved-in t x u hz = some-part x _ (u .k * s .l) refl (cut h (u .k) (u .lt)) (moved-from-in s t x (u .k) (u .given) hz)

@@ -62,12 +62,12 @@ module _ {T : Table} (sound : Sound T) {n : RowCounts} {st pu po : List ℕ} (re
     of-P (inl u) = step-yields sound ah hx t (reads .steps) u
     of-P (inr (inl u)) = push-yields sound ah hx t (reads .pushes) u
     of-P (inr (inr u)) =
-        moved-yields sound _ (P t (a / T .L) (a % T .L)) (λ g l. p-stands sound th ah) (λ e g g′ l. env-P) u hq hx
+        moved-yields _ (P t (a / T .L) (a % T .L)) (λ g l. p-stands sound th ah) (λ e g g′ l. env-P) u hq hx
 
     of-frame : (f : ℕ) → f < T .F → FrameUses s t a f q x y → Yielded T m y
     of-frame f fh (inl u) = call-yields sound th ah fh u hq hx
     of-frame f fh (inr u) =
-        moved-yields sound _ (Q t (a / T .L) (a % T .L) f) (λ g l. q-stands sound th ah fh) (λ e g g′ l. env-Q) u hq hx
+        moved-yields _ (Q t (a / T .L) (a % T .L) f) (λ g l. q-stands sound th ah fh) (λ e g g′ l. env-Q) u hq hx
 
     of-Q : QUses s n po t a q x y → Yielded T m y
     of-Q (inl u) = of-frame (u .k) (u .lt) (u .given)

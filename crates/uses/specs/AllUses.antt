@@ -8,11 +8,11 @@ use Rattle.positions.specs.Plans.{pFrom, qFrom}
 use Rattle.store.specs.Reading.{rowOf}
 use Rattle.uses.specs.declared.kinds.Kind.the-variants.{Push, Pop}
 use Rattle.uses.specs.Uses.{Uses, Either, Upto}
-use Rattle.uses.specs.RuleUses.{StepUses, RowUses, CallUse, MovedUse}
+use Rattle.uses.specs.RuleUses.{StepUses, RowUses, CallUse, MovedFrom}
 
 -- on the P facts of t from pair a: rules 5 and 2
 abbrev pub RestUses : Plan → RowCounts → List ℕ → ℕ → ℕ → Uses
-RestUses s n pushes t a = Either (RowUses Push s t a pushes (n .pushes)) (Upto (MovedUse s t (pFrom s t a)) (s .p))
+RestUses s n pushes t a = Either (RowUses Push s t a pushes (n .pushes)) (Upto (MovedFrom s t (pFrom s t a)) (s .g))
 
 -- rule 4 too
 abbrev pub PUses : Plan → RowCounts → List ℕ → List ℕ → ℕ → ℕ → Uses
@@ -20,7 +20,7 @@ PUses s n steps pushes t a = Either (StepUses s t a (rowOf steps) (n .steps)) (R
 
 -- on the Q facts of t from pair a with frame f: rules 6 and 3
 abbrev pub FrameUses : Plan → ℕ → ℕ → ℕ → Uses
-FrameUses s t a f = Either (Upto (CallUse s t (qFrom s t a + f * s .k)) (s .k)) (Upto (MovedUse s t (qFrom s t a + f * s .k)) (s .p))
+FrameUses s t a f = Either (Upto (CallUse s t (qFrom s t a + f * s .k)) (s .k)) (Upto (MovedFrom s t (qFrom s t a + f * s .k)) (s .g))
 
 -- on the Q facts of t from pair a: these for each frame, and rule 7
 abbrev pub QUses : Plan → RowCounts → List ℕ → ℕ → ℕ → Uses

@@ -2,7 +2,7 @@
 -- the Q facts of t from a with a frame, each row with a place for every pair where a fact may end. So uses are told row by row.
 use mathlib.Core.Path.{_≡_}
 use mathlib.Core.List.{List}
-use Prim.Native.Nat.{ℕ, _+_, _*_, _/_, _%_}
+use Prim.Native.Nat.{ℕ, _+_, _*_}
 use Rattle.positions.specs.declared.plan.Plan.{Plan}
 use Rattle.store.specs.declared.rows.Row.{Row}
 use Rattle.positions.specs.Plans.{pair, pFrom, qFrom, gAt}
@@ -82,7 +82,14 @@ CallUse s t y b = With (y + b) (Upto (Line (pFrom s t b) y) (s .k))
 
 -- ---- rules 2 and 3
 
--- the G fact i, of thread i / g / g from i / g % g to i % g, and the row of facts of t from x on, if the guarantee is another thread's
-abbrev pub MovedUse : Plan → ℕ → ℕ → ℕ → Uses
-MovedUse s t x i =
-    With i (Under (i / s .g / s .g ≡ t → ⊥) (Upto (Line (x + i / s .g % s .g * s .l) (x + i % s .g * s .l)) (s .l)))
+-- the G fact of e from g to g′, and the row of facts of t from x on, if the guarantee is another thread's
+abbrev pub MovedUse : Plan → ℕ → ℕ → ℕ → ℕ → ℕ → Uses
+MovedUse s t x g g′ e = With (gAt s e g g′) (Under (e ≡ t → ⊥) (Upto (Line (x + g * s .l) (x + g′ * s .l)) (s .l)))
+
+-- those of each thread, from g to g′
+abbrev pub MovedTo : Plan → ℕ → ℕ → ℕ → ℕ → Uses
+MovedTo s t x g g′ = Upto (MovedUse s t x g g′) (s .n)
+
+-- and from g to each shared store
+abbrev pub MovedFrom : Plan → ℕ → ℕ → ℕ → Uses
+MovedFrom s t x g = Upto (MovedTo s t x g) (s .g)

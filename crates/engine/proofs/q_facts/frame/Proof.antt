@@ -10,7 +10,7 @@ use Rattle.positions.specs.Plans.{qFrom}
 use Rattle.store.proofs.MarkLaws.{is-false}
 use Rattle.positions.proofs.Places.{q-rows, q-row}
 use Rattle.uses.specs.Uses.{Upto, Either}
-use Rattle.uses.specs.RuleUses.{CallUse, MovedUse}
+use Rattle.uses.specs.RuleUses.{CallUse, MovedFrom}
 use Rattle.uses.proofs.PassLaws.{swept-room, swept-of, and-then}
 use Rattle.engine.proofs.EmptyRows.{frame-empty}
 use Rattle.engine.proofs.q_facts.frame.Statement.{statement}
@@ -73,7 +73,7 @@ returns-2 c =
     let called = last .before .before .before .before in
     let at = called .before .before .before .before .before .before in
     let a = start at .args in
-    swept-of (λ y. Either (Upto (CallUse (a .s) (a .t) y) (a .s .k)) (Upto (MovedUse (a .s) (a .t) y) (a .s .p))) (y-is at)
+    swept-of (λ y. Either (Upto (CallUse (a .s) (a .t) y) (a .s .k)) (Upto (MovedFrom (a .s) (a .t) y) (a .s .g))) (y-is at)
     (and-then (called .calls .ensures) (last .guarantees .ensures))
 
 pub frame-spec : {M : Type 1} → statement M

@@ -4,7 +4,7 @@ use native.Mathlib.Omega.{arith}
 use borrow.Author.Needs.{needs}
 use Rattle.positions.proofs.Places.{p-row, parts}
 use Rattle.uses.specs.Uses.{Upto}
-use Rattle.uses.specs.RuleUses.{MovedUse}
+use Rattle.uses.specs.RuleUses.{MovedFrom}
 use Rattle.uses.proofs.PassLaws.{swept-room, swept-of, and-then}
 use Rattle.engine.proofs.turns.p_rest.Statement.{statement}
 use Rattle.engine.proofs.turns.p_rest.Tie as tie
@@ -35,7 +35,7 @@ returns c =
     let pushed = from .before .before .before in
     let a = pushed .before .before .before .before .args in
     and-then (pushed .rows-of .ensures)
-    (swept-of (λ x. Upto (MovedUse (a .s) (a .t) x) (a .s .p)) (from .p-from .ensures) (last .guarantees .ensures))
+    (swept-of (λ x. Upto (MovedFrom (a .s) (a .t) x) (a .s .g)) (from .p-from .ensures) (last .guarantees .ensures))
 
 pub p-rest-spec : {M : Type 1} → statement M
 p-rest-spec =
