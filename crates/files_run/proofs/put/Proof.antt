@@ -30,8 +30,8 @@ shared-slice-read-digit-2 c = search needs
 digit-requires-2 : tie.Need-digit-requires-2 Inv-loop μ-loop
 digit-requires-2 c κs = search needs
 
-put-byte-requires : tie.Need-put-byte-requires Inv-loop μ-loop
-put-byte-requires c κs = search needs
+put-digits-requires : tie.Need-put-digits-requires Inv-loop μ-loop
+put-digits-requires c κs = search needs
 
 add-i : tie.Need-add-i Inv-loop μ-loop
 add-i c = search needs
@@ -57,7 +57,7 @@ put-spec =
     digit-requires
     shared-slice-read-digit-2
     digit-requires-2
-    put-byte-requires
+    put-digits-requires
     add-i
     loop-less
     loop-again

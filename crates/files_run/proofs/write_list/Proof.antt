@@ -6,13 +6,10 @@ use Rattle.files_run.proofs.write_list.Statement.{statement}
 use Rattle.files_run.proofs.write_list.Tie as tie
 
 abbrev Inv-loop : tie.InvT-loop
-Inv-loop name count memory i₀ i = Unit {0}
+Inv-loop name count memory at i₀ i = Unit {0}
 
 abbrev μ-loop : tie.MeasureT-loop
-μ-loop name count memory i₀ i = 3 - i
-
-text-requires : tie.Need-text-requires Inv-loop μ-loop
-text-requires c κs = search needs
+μ-loop name count memory at i₀ i = 3 - i
 
 number-requires : tie.Need-number-requires Inv-loop μ-loop
 number-requires c κs = search needs
@@ -22,6 +19,9 @@ loop-holds c = search needs
 
 mul-write-row : tie.Need-mul-write-row Inv-loop μ-loop
 mul-write-row c = search needs
+
+add-write-row : tie.Need-add-write-row Inv-loop μ-loop
+add-write-row c = search needs
 
 write-row-requires : tie.Need-write-row-requires Inv-loop μ-loop
 write-row-requires c κs = search needs
@@ -44,10 +44,10 @@ write-list-spec =
     (tie.spec
     Inv-loop
     μ-loop
-    text-requires
     number-requires
     loop-holds
     mul-write-row
+    add-write-row
     write-row-requires
     add-i
     loop-less

@@ -1,25 +1,25 @@
--- `files_run::mixed_all` is safe and ends. It goes through the bytes of the memory.
+-- `files_run::cells` is safe and ends. It goes through the cells.
 -- Assumes nothing.
 use Prim.Native.Nat.{_-_}
 use lib.ListN.{length}
 use borrow.Author.Needs.{needs}
-use Rattle.files_run.proofs.mixed_all.Statement.{statement}
-use Rattle.files_run.proofs.mixed_all.Tie as tie
+use Rattle.files_run.proofs.cells.Statement.{statement}
+use Rattle.files_run.proofs.cells.Tie as tie
 
 abbrev Inv-loop : tie.InvT-loop
-Inv-loop before memory sum₀ i₀ sum i = Unit {0}
+Inv-loop values i₀ i = Unit {0}
 
 abbrev μ-loop : tie.MeasureT-loop
-μ-loop before memory sum₀ i₀ sum i = length memory - i
+μ-loop values i₀ i = length values - i
 
 loop-holds : tie.Need-loop-holds Inv-loop μ-loop
 loop-holds c = search needs
 
-shared-slice-read-mixed : tie.Need-shared-slice-read-mixed Inv-loop μ-loop
-shared-slice-read-mixed c = search needs
+shared-slice-read-cell : tie.Need-shared-slice-read-cell Inv-loop μ-loop
+shared-slice-read-cell c = search needs
 
-mixed-requires : tie.Need-mixed-requires Inv-loop μ-loop
-mixed-requires c κs = search needs
+cell-requires : tie.Need-cell-requires Inv-loop μ-loop
+cell-requires c κs = search needs
 
 add-i : tie.Need-add-i Inv-loop μ-loop
 add-i c = search needs
@@ -33,15 +33,15 @@ loop-again c = search needs
 returns : tie.Need-returns Inv-loop μ-loop
 returns c = search needs
 
-pub mixed-all-spec : {M : Type 1} → statement M
-mixed-all-spec =
+pub cells-spec : {M : Type 1} → statement M
+cells-spec =
     tie.close
     (tie.spec
     Inv-loop
     μ-loop
     loop-holds
-    shared-slice-read-mixed
-    mixed-requires
+    shared-slice-read-cell
+    cell-requires
     add-i
     loop-less
     loop-again
