@@ -1,5 +1,6 @@
 // Runs claim writing and the claim check on document 01's reference tables: the document's claims, claims with a fault at each place, claims that
 // were written. Every byte lent and every byte around is 0xAA before a call, and the bytes that a call changes are counted.
+ghost use Prim.Native.Nat.{_≤_};
 use claim_checking::check::check_claim;
 use claim_report::checked::checked_line;
 use claim_report::written::bytes_line;
@@ -53,24 +54,28 @@ fn number(word: &[u8], n: usize) {
     io::print_decimal(STDOUT_FILENO, n as u64);
 }
 
+// Ends a line with how many bytes are changed before those lent, and from `end` on.
+fn tell_around(bytes: &[u8; WITH_GUARDS], end: usize) {
+    number(b" before ", changed(bytes, 0, GUARD));
+    number(b" past ", changed(bytes, end, WITH_GUARDS));
+    text(b"\n");
+}
+
 // What the first w bytes lent of a memory hold, and how many bytes are changed before and past these.
 fn tell_memory(mem: &[u8; WITH_GUARDS], w: usize) {
     if w <= MOST {
         let end = GUARD + w;
         number(b"ones ", count(mem, GUARD, end, 1, true));
         number(b" zeros ", count(mem, GUARD, end, 0, true));
-        number(b" before ", changed(mem, 0, GUARD));
-        number(b" past ", changed(mem, end, WITH_GUARDS));
-        text(b"\n");
+        tell_around(mem, end);
     }
 }
 
 // How many bytes of a space are changed before and past those of a claim.
 fn tell_space(space: &[u8; WITH_GUARDS], bytes: usize) {
     if bytes <= MOST {
-        number(b"space before ", changed(space, 0, GUARD));
-        number(b" past ", changed(space, GUARD + bytes, WITH_GUARDS));
-        text(b"\n");
+        text(b"space");
+        tell_around(space, GUARD + bytes);
     }
 }
 
@@ -125,7 +130,38 @@ fn check(table: &[u8], w: usize, claim: &[u8], bytes: usize) {
     tell_memory(&mem, w);
 }
 
+fn wide(byte: u8) -> usize {
+    byte as usize
+}
+
+// Checks claims for a table whose facts take w bytes. Before each claim stands how many bytes it has.
+fn check_all(table: &[u8], w: usize, claims: &[u8]) {
+    let mut at = 0;
+    while at < claims.len() {
+        let start = at + 1;
+        let size = wide(claims[at]);
+        if claims.len() - start < size {
+            return;
+        }
+        let end = start + size;
+        check(table, w, &claims[start..end], MOST);
+        at = end;
+    }
+}
+
 // ---- claim writing
+
+// How many bytes of a claim an answer says are written; 0 if there is no claim.
+fn bytes_of(answer: WriteAnswer) -> usize {
+    match answer {
+        WriteAnswer::Written {
+            count: _,
+            verdict: _,
+            bytes,
+        } => bytes,
+        _ => 0,
+    }
+}
 
 // Writes the claim of a table into `size` bytes of a space, prints the answer, and gives how many bytes are written; 0 if there is no claim.
 fn write_to(table: &[u8], mem: &mut [u8], budget: usize, space: &mut [u8], size: usize) -> usize {
@@ -135,14 +171,7 @@ fn write_to(table: &[u8], mem: &mut [u8], budget: usize, space: &mut [u8], size:
         if end <= space.len() {
             let answer = write_claim(table, mem, budget, &mut space[start..end]);
             tell_written(table, answer);
-            match answer {
-                WriteAnswer::Written {
-                    count: _,
-                    verdict: _,
-                    bytes,
-                } => return bytes,
-                _ => return 0,
-            }
+            return bytes_of(answer);
         }
     }
     0
@@ -167,14 +196,19 @@ fn write_in(
     0
 }
 
+// Shows a claim, and checks it.
+fn show_and_check(table: &[u8], w: usize, claim: &[u8]) {
+    show(claim);
+    check(table, w, claim, MOST);
+}
+
 // Shows a claim that was written, and checks it.
 fn check_written(table: &[u8], w: usize, space: &[u8], bytes: usize) {
     if bytes <= MOST {
         let start = GUARD;
         let end = GUARD + bytes;
         if end <= space.len() {
-            show(&space[start..end]);
-            check(table, w, &space[start..end], MOST);
+            show_and_check(table, w, &space[start..end]);
         }
     }
 }
@@ -200,58 +234,61 @@ const RECURSION: [u8; 29] = *b"\x01\x01\x02\x02\x01\x00\x00\x00\
     \x01\x00\x01\x01\x00\x01\
     \x01\x02\x01";
 
-// Checks a claim for the recursion table.
-fn recursion(claim: &[u8]) {
-    check(&RECURSION, 36, claim, MOST);
+// Checks claims for the recursion table.
+fn recursion(claims: &[u8]) {
+    check_all(&RECURSION, 36, claims);
 }
 
-// The claims of document 01: the facts; a closed set that is larger; one that lacks position 23; one that allows the error row; none.
+// The claims of document 01, one to a line: the facts; a closed set that is larger; one that lacks position 23; one that allows the error row;
+// none.
 fn document() {
     text(b"document\n");
-    recursion(b"\x01\x05\x01\x03\x03\x0D\x03");
-    recursion(b"\x01\x06\x01\x03\x03\x0C\x01\x03");
-    recursion(b"\x01\x04\x01\x03\x03\x0D");
-    recursion(b"\x01\x07\x01\x03\x02\x01\x0D\x02\x01");
-    recursion(b"\x01\x00");
+    recursion(
+        b"\x07\x01\x05\x01\x03\x03\x0D\x03\
+        \x08\x01\x06\x01\x03\x03\x0C\x01\x03\
+        \x06\x01\x04\x01\x03\x03\x0D\
+        \x09\x01\x07\x01\x03\x02\x01\x0D\x02\x01\
+        \x02\x01\x00",
+    );
 }
 
 // A claim cut before each of its bytes.
-fn cuts(claim: &[u8]) {
+fn cuts() {
     text(b"cut\n");
-    let mut n = 0;
-    while n < claim.len() {
-        recursion(&claim[..n]);
-        n += 1;
-    }
+    recursion(
+        b"\x00\
+        \x01\x01\
+        \x02\x01\x05\
+        \x03\x01\x05\x01\
+        \x04\x01\x05\x01\x03\
+        \x05\x01\x05\x01\x03\x03\
+        \x06\x01\x05\x01\x03\x03\x0D",
+    );
 }
 
-// A fault of the layout at each place, and the borders.
+// A fault of the layout at each place, and the borders: version 2; a count that is not in its shortest form; a count of W + 1, and of W; the first
+// position is W, and W - 1; a further one is W, and W - 1; a distance of 0; one byte more.
 fn layout() {
     text(b"layout\n");
-    // version 2
-    recursion(b"\x02\x05\x01\x03\x03\x0D\x03");
-    // a count that is not in its shortest form
-    recursion(b"\x01\x85\x00\x01\x03\x03\x0D\x03");
-    // a count of W + 1, and of W
-    recursion(b"\x01\x25");
-    recursion(b"\x01\x24");
-    // the first position is W, and W - 1
-    recursion(b"\x01\x01\x24");
-    recursion(b"\x01\x01\x23");
-    // a further one is W, and W - 1
-    recursion(b"\x01\x02\x22\x02");
-    recursion(b"\x01\x02\x22\x01");
-    // a distance of 0
-    recursion(b"\x01\x02\x04\x00");
-    // one byte more
-    recursion(b"\x01\x05\x01\x03\x03\x0D\x03\x00");
+    recursion(
+        b"\x07\x02\x05\x01\x03\x03\x0D\x03\
+        \x08\x01\x85\x00\x01\x03\x03\x0D\x03\
+        \x02\x01\x25\
+        \x02\x01\x24\
+        \x03\x01\x01\x24\
+        \x03\x01\x01\x23\
+        \x04\x01\x02\x22\x02\
+        \x04\x01\x02\x22\x01\
+        \x04\x01\x02\x04\x00\
+        \x08\x01\x05\x01\x03\x03\x0D\x03\x00",
+    );
 }
 
 // The claim of all positions has every start fact and is closed. It has each P, so that the error row's place is reached.
 fn all_positions() {
     text(b"all positions\n");
     recursion(
-        b"\x01\x24\x00\x01\x01\x01\x01\x01\x01\x01\x01\x01\x01\x01\x01\x01\x01\x01\x01\x01\
+        b"\x26\x01\x24\x00\x01\x01\x01\x01\x01\x01\x01\x01\x01\x01\x01\x01\x01\x01\x01\x01\x01\
         \x01\x01\x01\x01\x01\x01\x01\x01\x01\x01\x01\x01\x01\x01\x01\x01\x01\x01",
     );
 }
@@ -261,26 +298,36 @@ fn all_positions() {
 // W is 2, and there is one fact.
 const SMALLEST: [u8; 12] = [1, 1, 1, 1, 0, 0, 0, 0, 0, 0, 0, 0];
 
+// The claim of no fact. It lacks thread 0's start fact.
+const NONE: [u8; 3] = [2, 1, 0];
+
 // The claim of no fact for the mutex table, whose W is 1,600.
-fn mutex_without_starts() {
+fn mutex_starts() {
     let mutex = training::mutex_file();
-    let none = [1u8, 0];
-    check(&mutex, 1600, &none, MOST);
+    check_all(&mutex, 1600, &NONE);
 }
 
-// The claim of no fact lacks thread 0's start fact. For the training table (W is 9,600) the others' follow: the claims of the start facts of thread
-// 0, of threads 0 and 1, and of all three, which is not closed.
+// The claims of no fact, of the start facts of thread 0, of threads 0 and 1, and of all three, which is not closed, for the training table, whose
+// W is 9,600.
+fn training_starts() {
+    let training = training::file();
+    check_all(
+        &training,
+        9600,
+        b"\x02\x01\x00\
+        \x04\x01\x01\xCF\x04\
+        \x06\x01\x02\xCF\x04\xC0\x18\
+        \x08\x01\x03\xCF\x04\xC0\x18\xC0\x18",
+    );
+}
+
+// The claims that lack a start fact.
 fn starts() {
     text(b"starts\n");
-    let none = [1u8, 0];
-    let training = training::file();
-    check(&RECURSION, 36, &none, MOST);
-    check(&SMALLEST, 2, &none, MOST);
-    mutex_without_starts();
-    check(&training, 9600, &none, MOST);
-    check(&training, 9600, b"\x01\x01\xCF\x04", MOST);
-    check(&training, 9600, b"\x01\x02\xCF\x04\xC0\x18", MOST);
-    check(&training, 9600, b"\x01\x03\xCF\x04\xC0\x18\xC0\x18", MOST);
+    recursion(&NONE);
+    check_all(&SMALLEST, 2, &NONE);
+    mutex_starts();
+    training_starts();
 }
 
 // What comes first: the table's fault, then short memory, then the claim's fault.
@@ -293,35 +340,45 @@ fn order() {
     check(&table, 36, &fault, 36);
 }
 
+// Writes the recursion table's claim.
+fn write_recursion(bytes: usize, budget: usize, size: usize) {
+    write(&RECURSION, 36, bytes, budget, size);
+}
+
 // Space that is exact and one byte short, and none; memory and budget that are exact and one short; a table that is refused.
 fn writing() {
     text(b"writing\n");
+    write_recursion(MOST, 65536, MOST);
+    write_recursion(36, 5, 7);
+    write_recursion(36, 5, 6);
+    write_recursion(36, 5, 0);
+    write_recursion(36, 4, 7);
+    write_recursion(35, 5, 7);
     let table = RECURSION;
-    write(&table, 36, MOST, 65536, MOST);
-    write(&table, 36, 36, 5, 7);
-    write(&table, 36, 36, 5, 6);
-    write(&table, 36, 36, 5, 0);
-    write(&table, 36, 36, 4, 7);
-    write(&table, 36, 35, 5, 7);
     write(&table[..28], 36, 36, 5, 7);
+}
+
+// Writes the claim of a table in memory and budget that are exact, and in space that is exact and one byte short.
+fn write_exact(table: &[u8], w: usize, facts: usize, size: usize)
+    requires { ⌜ 1 ≤ size ⌝ }
+{
+    write(table, w, w, facts, size);
+    write(table, w, w, facts, size - 1);
 }
 
 // The claims of the other tables, written and checked: the smallest, training, and the mutex, whose verdict is "possible".
 fn written() {
     text(b"written\n");
-    write(&SMALLEST, 2, 2, 1, 3);
-    write(&SMALLEST, 2, 2, 1, 2);
+    write_exact(&SMALLEST, 2, 1, 3);
     let training = training::file();
-    write(&training, 9600, 9600, 57, 62);
-    write(&training, 9600, 9600, 57, 61);
+    write_exact(&training, 9600, 57, 62);
     let mutex = training::mutex_file();
-    write(&mutex, 1600, 1600, 80, 84);
-    write(&mutex, 1600, 1600, 80, 83);
+    write_exact(&mutex, 1600, 80, 84);
 }
 
 fn main() {
     document();
-    cuts(b"\x01\x05\x01\x03\x03\x0D\x03");
+    cuts();
     layout();
     all_positions();
     starts();
