@@ -1,16 +1,19 @@
 // The answers 9, 10 and 11 of document 01, in this order, or none of them, on the facts that a memory marks.
 ghost use mathlib.Core.Path.{_≡_};
-ghost use Prim.Native.Nat.{_≤_};
+ghost use Prim.Native.Nat.{_*_, _≤_};
 ghost use lib.ListN.{length};
 ghost use Rattle.files.specs.Table.{Table, W};
+ghost use Rattle.model.specs.Rules.{ClosedWithStarts};
 ghost use Rattle.model.specs.Memory.{Marked};
 ghost use Rattle.model.specs.Claims.{Finds};
+ghost use Rattle.verdict.specs.ErrorRows.{ErrorsOf};
 ghost use Rattle.rules.specs.Lent.{Stored};
 ghost use Rattle.findings.specs.Found.{findingOf};
 use crate::starts::lacking_start;
 use engine::run::missing;
 use files::header::Header;
 use files::table::Counts;
+use positions::plan::Plan;
 use positions::plan::plan_by;
 use store::rows::RowCounts;
 use verdict::search::Verdict;
@@ -26,6 +29,25 @@ pub enum Finding {
     NotClosed { position: usize },
     // The smallest row number of an error that is allowed.
     AllowsError { row: usize },
+}
+
+// What is found of facts that are a closed set with the start facts: an error that is allowed, or nothing.
+fn find_error(s: Plan, failed: u8, errors: &[u8; 320], n: usize, mem: &[u8]) -> Finding
+    requires { ⌜ ((T : Table) × ErrorsOf T s failed (now errors) n) × (5 * n ≤ length (now errors)) × (s .w ≤ length (now mem)) ⌝ }
+    ensures { λ r. ⌜ ((T : Table) → ErrorsOf T s failed (now (errors .entry)) n
+        → ClosedWithStarts T (Marked T (now (mem .entry))) → Finds T (Marked T (now (mem .entry))) (findingOf r)) ⌝ }
+{
+    match judge(s, failed as usize, errors, n, mem) {
+        Verdict::Safe => Finding::Accepted,
+        Verdict::Possible {
+            row,
+            g: _,
+            l0: _,
+            l1: _,
+            l2: _,
+            l3: _,
+        } => Finding::AllowsError { row },
+    }
 }
 
 // What is found of the facts that the first W bytes mark, for a table whose rows are stored. Each of the three is looked for only if the one
@@ -62,17 +84,5 @@ pub fn find(
     if position < s.w {
         return Finding::NotClosed { position };
     }
-    let failed = header.failed as usize;
-    let n = counts.errors;
-    match judge(s, failed, errors, n, mem) {
-        Verdict::Safe => Finding::Accepted,
-        Verdict::Possible {
-            row,
-            g: _,
-            l0: _,
-            l1: _,
-            l2: _,
-            l3: _,
-        } => Finding::AllowsError { row },
-    }
+    find_error(s, header.failed, errors, counts.errors, mem)
 }

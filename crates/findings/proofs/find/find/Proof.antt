@@ -10,14 +10,14 @@ use lib.ListN.{length}
 use Rattle.files.specs.Table.{Table}
 use Rattle.model.specs.Rules.{Starts, ClosedWithStarts}
 use Rattle.model.specs.Memory.{Marked}
+use Rattle.model.specs.Claims.{Finds}
 use Rattle.positions.specs.Plans.{planOf}
-use Rattle.verdict.specs.ErrorRows.{Judged}
 use Rattle.rules.specs.Lent.{Stored}
 use Rattle.rules.proofs.LentRows.{stored-rows, stored-begins, stored-errors}
 use Rattle.rules.proofs.LentRows.{stored-plan, stored-sizes, stored-errors-long}
 use Rattle.rules.proofs.Outcomes.{w-by}
-use Rattle.findings.specs.Found.{Started}
-use Rattle.findings.proofs.FoundLaws.{start-lacks, starts-marked, position-misses, closed-marked, nothing-found, row-allows}
+use Rattle.findings.specs.Found.{Started, findingOf}
+use Rattle.findings.proofs.FoundLaws.{start-lacks, starts-marked, position-misses, closed-marked}
 use Rattle.findings.proofs.find.find.Statement.{statement}
 use Rattle.findings.proofs.find.find.Tie as tie
 
@@ -38,8 +38,8 @@ started a = a .before .before .before .before .before
 abbrev second : tie.Else2 → tie.After-missing
 second a = a .before .before .before .before
 
-abbrev settled : tie.After-judge → tie.Else2
-settled a = a .before .before .before .before
+abbrev settled : tie.After-find-error → tie.Else2
+settled a = a .before .before
 
 -- ---- the table
 
@@ -73,12 +73,14 @@ closed c T st =
     let e = plan-is (plan (first (started m))) T st in
     closed-marked (st .sound) e (starts (started m) T st) (m .missing .ensures .0 T (stored-rows st e)) (omega (arith, c .if2 .left))
 
-judged : (c : tie.After-judge) (T : Table) → let a = plan (first (started (second (settled c)))) in
-    Of a T → Judged T (now (start a .args .mem)) (c .judge .result)
-judged c T st =
+found : (c : tie.After-find-error) (T : Table) → let a = plan (first (started (second (settled c)))) in
+    Of a T → Finds T (Marked T (now (start a .args .mem))) (findingOf (c .find-error .result))
+found c T st =
     let m = second (settled c) in
     let e = plan-is (plan (first (started m))) T st in
-    subst (λ k. Judged T k (c .judge .result)) (m .missing .ensures .1) (c .judge .ensures T (stored-errors st e))
+    let same = m .missing .ensures .1 in
+    subst (λ k. ClosedWithStarts T (Marked T k) → Finds T (Marked T k) (findingOf (c .find-error .result))) same
+    (c .find-error .ensures T (stored-errors st e)) (closed (settled c) T st)
 
 -- ---- the steps
 
@@ -118,12 +120,9 @@ returns-2 c =
       m .missing .ensures .1,
     )
 
-cast-failed : tie.Need-cast-failed
-cast-failed c = search needs
-
-judge-requires : tie.Need-judge-requires
-judge-requires c κs =
-    let m = second (c .before .before .before) in
+find-error-requires : tie.Need-find-error-requires
+find-error-requires c κs =
+    let m = second (c .before) in
     let a = plan (first (started m)) in
     let own = start a .pre .1 in (
       (_, stored-errors own (own-plan a)),
@@ -131,27 +130,11 @@ judge-requires c κs =
       omega (arith, enough a, ap length (m .missing .ensures .1)),
     )
 
-enum-told : tie.Need-enum-told
-enum-told c = search needs
-
-enum-known-row : tie.Need-enum-known-row
-enum-known-row c = search needs
-
 same-length-3 : tie.Need-same-length-3
 same-length-3 c = search needs
 
 returns-3 : tie.Need-returns-3
-returns-3 c =
-    let j : tie.After-judge = c .before .before in
-    (λ T st. nothing-found (closed (settled j) T st) (judged j T st) (c .enum-told .given .1), second (settled j) .missing .ensures .1)
-
-same-length-4 : tie.Need-same-length-4
-same-length-4 c = search needs
-
-returns-4 : tie.Need-returns-4
-returns-4 c =
-    let j : tie.After-judge = c .before .before .before in
-    (λ T st. row-allows (closed (settled j) T st) (judged j T st) (c .before .row .given .1), second (settled j) .missing .ensures .1)
+returns-3 c = (found c, second (settled c) .missing .ensures .1)
 
 pub find-spec : {M : Type 1} → statement M
 find-spec =
@@ -165,11 +148,6 @@ find-spec =
     missing-requires
     same-length-2
     returns-2
-    cast-failed
-    judge-requires
-    enum-told
-    enum-known-row
+    find-error-requires
     same-length-3
-    returns-3
-    same-length-4
-    returns-4)
+    returns-3)
