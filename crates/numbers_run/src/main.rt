@@ -20,11 +20,9 @@ fn say(word: &[u8], n: u64) {
     io::print_decimal(STDOUT_FILENO, n);
 }
 
-// The bytes, and what is read of them at `at`: the number with the place past it, or the refusal's number and value.
-fn read(src: &[u8], at: usize) {
-    bytes(src);
-    say(b"@", at as u64);
-    match numbers::reading::number(src, at) {
+// What is read: a number with the place past it, or the refusal's number and value.
+fn tell(read: Read) {
+    match read {
         Read::Value { value, next } => {
             say(b": number ", value as u64);
             say(b" next ", next as u64);
@@ -35,7 +33,33 @@ fn read(src: &[u8], at: usize) {
             say(b" ", told.value as u64);
         }
     }
+}
+
+// The bytes, and what is read of them at `at`.
+fn read(src: &[u8], at: usize) {
+    bytes(src);
+    say(b"@", at as u64);
+    tell(numbers::reading::number(src, at));
     io::write_all(STDOUT_FILENO, b"\n");
+}
+
+fn wide(byte: u8) -> usize {
+    byte as usize
+}
+
+// Bytes of a list, and what is read of them at their start. Before them stands their number.
+fn read_all(list: &[u8]) {
+    let mut at = 0;
+    while at < list.len() {
+        let start = at + 1;
+        let size = wide(list[at]);
+        if list.len() - start < size {
+            return;
+        }
+        let end = start + size;
+        read(&list[start..end], 0);
+        at = end;
+    }
 }
 
 // Writes a value at `at` into six bytes EE, and reads it back.
@@ -51,32 +75,38 @@ fn write(value: u32, at: usize) {
 
 // The least and the greatest number of one to four bytes, and 300.
 fn borders() {
-    read(b"\x00", 0);
-    read(b"\x7F", 0);
-    read(b"\x80\x01", 0);
-    read(b"\xAC\x02", 0);
-    read(b"\xFF\x7F", 0);
-    read(b"\x80\x80\x01", 0);
-    read(b"\xFF\xFF\x7F", 0);
-    read(b"\x80\x80\x80\x01", 0);
-    read(b"\xFF\xFF\xFF\x7F", 0);
+    read_all(
+        b"\x01\x00\
+        \x01\x7F\
+        \x02\x80\x01\
+        \x02\xAC\x02\
+        \x02\xFF\x7F\
+        \x03\x80\x80\x01\
+        \x03\xFF\xFF\x7F\
+        \x04\x80\x80\x80\x01\
+        \x04\xFF\xFF\xFF\x7F",
+    );
 }
 
 // Numbers that are not in their shortest form, and numbers that are too long.
 fn long() {
-    read(b"\x80\x00", 0);
-    read(b"\x80\x80\x00", 0);
-    read(b"\xFF\xFF\xFF\x00", 0);
-    read(b"\xFF\xFF\xFF\xFF", 0);
-    read(b"\xFF\xFF\xFF\xFF\x01", 0);
-    read(b"\xFF\xFF\xFF\x80\x00\x00", 0);
+    read_all(
+        b"\x02\x80\x00\
+        \x03\x80\x80\x00\
+        \x04\xFF\xFF\xFF\x00\
+        \x04\xFF\xFF\xFF\xFF\
+        \x05\xFF\xFF\xFF\xFF\x01\
+        \x06\xFF\xFF\xFF\x80\x00\x00",
+    );
 }
 
 // Bytes that end too soon.
 fn cuts() {
-    read(b"", 0);
-    read(b"\x80", 0);
-    read(b"\xFF\xFF\xFF", 0);
+    read_all(
+        b"\x00\
+        \x01\x80\
+        \x03\xFF\xFF\xFF",
+    );
 }
 
 // Places inside the bytes, at their end and beyond it.
