@@ -13,7 +13,7 @@ use uses::lines::Pass;
 use uses::lines::line;
 
 // Rule 6 for the Q fact to pair b.
-pub fn call(s: Plan, t: usize, y: usize, b: usize, mem: &mut [u8], put: bool, pass: Pass) -> Pass
+fn call(s: Plan, t: usize, y: usize, b: usize, mem: &mut [u8], put: bool, pass: Pass) -> Pass
     requires { ⌜ Planned s × (t < s .n) × (b < s .k) × (y + s .k ≤ s .w) × (s .w ≤ room (now mem)) ⌝ }
     ensures { λ r. ⌜ Swept (CallUse s t y b) put pass r (now (mem .entry)) (now (mem .exit)) ⌝ }
 {

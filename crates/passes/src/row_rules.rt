@@ -16,7 +16,7 @@ use uses::lines::Pass;
 use uses::lines::one;
 
 // Rule 5 for one row.
-pub fn push(s: Plan, t: usize, a: usize, r: Row, mem: &mut [u8], put: bool, pass: Pass) -> Pass
+fn push(s: Plan, t: usize, a: usize, r: Row, mem: &mut [u8], put: bool, pass: Pass) -> Pass
     requires { ⌜ Planned s × (t < s .n) × (a < s .k) × RowIn s (s .l) (s .f) r × (s .w ≤ room (now mem)) ⌝ }
     ensures { λ b. ⌜ Swept (PushUse s t a r) put pass b (now (mem .entry)) (now (mem .exit)) ⌝ }
 {
@@ -33,7 +33,7 @@ pub fn push(s: Plan, t: usize, a: usize, r: Row, mem: &mut [u8], put: bool, pass
 }
 
 // Rule 7 for one row.
-pub fn pop(s: Plan, t: usize, a: usize, r: Row, mem: &mut [u8], put: bool, pass: Pass) -> Pass
+fn pop(s: Plan, t: usize, a: usize, r: Row, mem: &mut [u8], put: bool, pass: Pass) -> Pass
     requires { ⌜ Planned s × (t < s .n) × (a < s .k) × RowIn s (s .f) (s .l) r × (s .w ≤ room (now mem)) ⌝ }
     ensures { λ b. ⌜ Swept (PopUse s t a r) put pass b (now (mem .entry)) (now (mem .exit)) ⌝ }
 {
@@ -47,7 +47,7 @@ pub fn pop(s: Plan, t: usize, a: usize, r: Row, mem: &mut [u8], put: bool, pass:
 }
 
 // The rule for one row of a kind, if it is a row of t.
-pub fn row(
+fn row(
     kind: Kind,
     s: Plan,
     t: usize,

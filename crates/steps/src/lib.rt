@@ -16,7 +16,7 @@ use uses::lines::Pass;
 use uses::lines::one;
 
 // Rule 4 for one row.
-pub fn step(s: Plan, t: usize, a: usize, r: Row, mem: &mut [u8], put: bool, pass: Pass) -> Pass
+fn step(s: Plan, t: usize, a: usize, r: Row, mem: &mut [u8], put: bool, pass: Pass) -> Pass
     requires { ⌜ Planned s × (t < s .n) × (a < s .k) × RowIn s (s .g) (s .l) r × (s .w ≤ room (now mem)) ⌝ }
     ensures { λ b. ⌜ Swept (StepUse s t a r) put pass b (now (mem .entry)) (now (mem .exit)) ⌝ }
 {
@@ -32,7 +32,7 @@ pub fn step(s: Plan, t: usize, a: usize, r: Row, mem: &mut [u8], put: bool, pass
 }
 
 // Rule 4 for one row, if it is a row of t.
-pub fn step_row(s: Plan, t: usize, a: usize, r: Row, mem: &mut [u8], put: bool, pass: Pass) -> Pass
+fn step_row(s: Plan, t: usize, a: usize, r: Row, mem: &mut [u8], put: bool, pass: Pass) -> Pass
     requires { ⌜ Planned s × (t < s .n) × (a < s .k) × RowIn s (s .g) (s .l) r × (s .w ≤ room (now mem)) ⌝ }
     ensures { λ b. ⌜ Swept (StepRowUse s t a r) put pass b (now (mem .entry)) (now (mem .exit)) ⌝ }
 {
