@@ -12,13 +12,16 @@ use Rattle.engine.proofs.turns.end_of_round.Tie as tie
 mul-last : tie.Need-mul-last
 mul-last c = omega (arith, rows-small (c .before .before .before .pre .0))
 
-put-many-requires : tie.Need-put-many-requires
-put-many-requires c κs = search needs
+mul-put-more : tie.Need-mul-put-more
+mul-put-more c = omega (arith, rows-small (c .before .before .before .pre .0))
+
+put-more-requires : tie.Need-put-more-requires
+put-more-requires c κs = search needs
 
 returns : tie.Need-returns
 returns c =
     λ st pu b m₀ done.
-    let many = is-true _ (c .before .put-many .ensures) (c .if1 .taken) in
+    let many = is-true _ (c .before .put-more .ensures) (c .if1 .taken) in
     begins-anew _ _ _ _ _ (c .before .before .before .before .before .pre .0) (done .covered) (done .fewer) (λ e. omega arith)
 
 q-rows-requires : tie.Need-q-rows-requires
@@ -52,7 +55,8 @@ end-of-round-spec =
     tie.close
     (tie.spec
     mul-last
-    put-many-requires
+    mul-put-more
+    put-more-requires
     returns
     q-rows-requires
     same-length

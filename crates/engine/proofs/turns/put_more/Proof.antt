@@ -8,12 +8,12 @@ use borrow.Author.Needs.{needs}
 use borrow.Author.Tests.{ltb-true, ltb-false}
 use lib.Dec.{ltb}
 use Rattle.store.specs.Marking.{Is}
-use Rattle.engine.proofs.turns.put_many.Statement.{statement}
-use Rattle.engine.proofs.turns.put_many.Tie as tie
+use Rattle.engine.proofs.turns.put_more.Statement.{statement}
+use Rattle.engine.proofs.turns.put_more.Tie as tie
 
-more-put : (before left rows : ℕ) → left < before → (r : Bool) → r ≡ ltb rows (before - left) → Is (left + rows < before) r
-more-put before left rows l true e = omega (arith, ltb-true rows (before - left) (sym e))
-more-put before left rows l false e = λ h. omega (arith, ltb-false rows (before - left) (sym e))
+more-put : (before left many : ℕ) → left < before → (r : Bool) → r ≡ ltb many (before - left) → Is (left + many < before) r
+more-put before left many l true e = omega (arith, ltb-true many (before - left) (sym e))
+more-put before left many l false e = λ h. omega (arith, ltb-false many (before - left) (sym e))
 
 returns : tie.Need-returns
 returns c = λ l. omega (arith, c .if1 .taken)
@@ -24,5 +24,5 @@ sub-result c = search needs
 returns-2 : tie.Need-returns-2
 returns-2 c = more-put _ _ _ (c .if1 .left) _ refl
 
-pub put-many-spec : {M : Type 1} → statement M
-put-many-spec = tie.close (tie.spec returns sub-result returns-2)
+pub put-more-spec : {M : Type 1} → statement M
+put-more-spec = tie.close (tie.spec returns sub-result returns-2)
