@@ -109,6 +109,9 @@ fn p_rest(
     guarantees(s, t, p_from(s, t, a), mem, put, pushed)
 }
 
+// How many marks for each row of P facts are many.
+const MANY: usize = 16;
+
 // Whether a round put more marks than so many: how many could be put before it, and how many can be put after it.
 fn put_more(before: usize, left: usize, many: usize) -> bool
     ensures { λ r. ⌜ Is (left + many < before) r ⌝ }
@@ -119,8 +122,8 @@ fn put_more(before: usize, left: usize, many: usize) -> bool
     many < before - left
 }
 
-// The end of a round over the rows of P facts. If it put many marks, more than sixteen for each row, another begins at once, since there may be
-// more Q facts by far. Else the Q facts are gone over; if the round put nothing, or none is left to put, this ends the work.
+// The end of a round over the rows of P facts. If it put many marks for each row, another begins at once, since there may be more Q facts
+// by far. Else the Q facts are gone over; if the round put nothing, or none is left to put, this ends the work.
 fn end_of_round(
     s: Plan,
     counts: RowCounts,
@@ -138,7 +141,7 @@ fn end_of_round(
     let last = s.n * s.k;
     let before = turn.before;
     let rest = pass.left;
-    if put_more(before, rest, last * 16) {
+    if put_more(before, rest, last * MANY) {
         return Turn {
             row: 0,
             before: rest,
