@@ -48,11 +48,17 @@ const RECURSION: [u8; 29] = *b"\x01\x01\x02\x02\x01\x00\x00\x00\
     \x01\x00\x01\x01\x00\x01\
     \x01\x02\x01";
 
+// Checks the recursion table.
+fn run_recursion(bytes: usize, budget: usize) {
+    run(&RECURSION, bytes, budget);
+}
+
+// Memory and budget that are more than enough, exact, and one short.
 fn recursion() {
-    run(&RECURSION, MOST, 65536);
-    run(&RECURSION, 36, 5);
-    run(&RECURSION, 36, 4);
-    run(&RECURSION, 35, 5);
+    run_recursion(MOST, 65536);
+    run_recursion(36, 5);
+    run_recursion(36, 4);
+    run_recursion(35, 5);
 }
 
 // W is 2, and there is one fact.
@@ -132,13 +138,18 @@ fn watch(table: &[u8], bytes: usize, budget: usize, from: usize) {
     io::write_all(STDOUT_FILENO, b"\n");
 }
 
+// Watches a check of the recursion table.
+fn watch_recursion(bytes: usize, budget: usize, from: usize) {
+    watch(&RECURSION, bytes, budget, from);
+}
+
 // Where the check is done or there are more facts than the budget, the first W bytes change, from 0xAA to 0 or 1, and those from W on do not;
 // where the memory is short or the table is refused, none does.
 fn left_alone() {
-    watch(&RECURSION, MOST, 5, 0);
-    watch(&RECURSION, MOST, 5, 36);
-    watch(&RECURSION, MOST, 4, 36);
-    watch(&RECURSION, 35, 5, 0);
+    watch_recursion(MOST, 5, 0);
+    watch_recursion(MOST, 5, 36);
+    watch_recursion(MOST, 4, 36);
+    watch_recursion(35, 5, 0);
     let table = RECURSION;
     watch(&table[..28], MOST, 5, 0);
     let mutex = training::mutex_file();

@@ -26,9 +26,14 @@ fn number(word: &[u8], n: usize) {
     io::print_decimal(STDOUT_FILENO, n as u64);
 }
 
+// A number, with a blank before it.
+fn spaced(n: usize) {
+    number(b" ", n);
+}
+
 // A cell, with a blank before it.
 fn cell(value: u8) {
-    number(b" ", value as usize);
+    spaced(value as usize);
 }
 
 // Cells, each with a blank before it.
@@ -197,7 +202,7 @@ fn write_accepted(header: Header, counts: Counts, memory: &Room) {
 fn write_refused(refusal: Refusal, memory: &Room) {
     let told = tell(refusal);
     number(b": refused ", told.number as usize);
-    number(b" ", told.value);
+    spaced(told.value);
     number(b", zeros ", count(memory, 0));
 }
 
@@ -411,10 +416,11 @@ fn limits(steps: u32, pushes: u32, pops: u32, errors: u32) {
     let c = put_list(&mut file, b, pushes, 4, 15, 7);
     let d = put_list(&mut file, c, pops, 4, 7, 15);
     let n = put_list(&mut file, d, errors, 16, 16, 16);
-    number(b"rows ", steps as usize);
-    number(b" ", pushes as usize);
-    number(b" ", pops as usize);
-    number(b" ", errors as usize);
+    text(b"rows");
+    spaced(steps as usize);
+    spaced(pushes as usize);
+    spaced(pops as usize);
+    spaced(errors as usize);
     show(&file, n);
 }
 
