@@ -56,7 +56,7 @@ try-read : {A : Type 0} {B : A → Type 0} → ((a : A) → Option (B a)) → (o
 try-read try (got a next) = try a
 try-read try (bad r) = none
 
--- a round of the rules that finds nothing new is the last that matters, so as many rounds as facts are enough
+-- a pass that finds nothing new is the last that matters, so as many passes as facts are enough
 try-checked : (w count : ℕ) (facts : List Fact) (positions : List ℕ) (verdict : Option Witness) (T : Table)
     → Option (CheckedAs w count facts positions verdict T)
 unfolding given ℕ-discrete lists? decLt exact? verdict? W pos baseP baseQ

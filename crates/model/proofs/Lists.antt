@@ -38,6 +38,10 @@ module _ {A : Type 0} (C : A → Type 0) where
   from-two c d (List·Memᴰ·head e) = subst⁻¹ C e c
   from-two c d (List·Memᴰ·tail m) = from-one d m
 
+  pub from-cons : {x a : A} {xs : List A} → C x → ((a : A) → List·Memᴰ a xs → C a) → List·Memᴰ a (x ∷ xs) → C a
+  from-cons c f (List·Memᴰ·head e) = subst⁻¹ C e c
+  from-cons c f (List·Memᴰ·tail m) = f _ m
+
   -- and what holds of the members of two lists holds of the members of both together
   pub from-append : (xs ys : List A) {a : A} → ((a : A) → List·Memᴰ a xs → C a) → ((a : A) → List·Memᴰ a ys → C a)
       → List·Memᴰ a (xs ++ ys) → C a

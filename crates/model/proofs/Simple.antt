@@ -58,9 +58,9 @@ training-counts : (length fifteen ≡ 15) × (length fortyTwo ≡ 42)
 unfolding fifteen fortyTwo
 training-counts = (refl, refl)
 
-training-exact : Exact training 8 (fifteen ++ fortyTwo)
+training-exact : Exact training 4 (fifteen ++ fortyTwo)
 unfolding training fifteen fortyTwo exact?
-training-exact = decided (exact? training 8 (fifteen ++ fortyTwo)) tt
+training-exact = decided (exact? training 4 (fifteen ++ fortyTwo)) tt
 
 pub training-facts : FactCount training 57
 unfolding fifteen fortyTwo
@@ -82,9 +82,9 @@ mutexFacts =
     (range 0 2)
     ++ flatMap (λ t. flatMap (λ g. at t g (range 0 7)) (range 0 4)) (range 0 2)
 
-mutex-exact : Exact mutex 9 mutexFacts
+mutex-exact : Exact mutex 5 mutexFacts
 unfolding mutex mutexFacts exact?
-mutex-exact = decided (exact? mutex 9 mutexFacts) tt
+mutex-exact = decided (exact? mutex 5 mutexFacts) tt
 
 pub mutex-possible : Verdict mutex (Derives mutex) (some (record { row = 0; shared = 0; locals = 0 ∷ 6 ∷ [] }))
 unfolding mutex mutexFacts verdict?

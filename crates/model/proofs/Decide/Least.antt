@@ -1,6 +1,6 @@
 -- Whether a list of facts is exactly the least relations of a table. A list that holds the start facts and is closed has every derivable
--- fact. Its facts are derivable if rounds of the rules find them all: each round takes the facts of the list that are start facts or
--- follow from what the round before it took. If the facts stand in position order, the length of the list is the number of facts.
+-- fact. Its facts are derivable if passes through it find them all: a fact is found if it is a start fact or follows from facts that are found
+-- already, and what it yields is worked out once. If the facts stand in position order, the length of the list is the number of facts.
 -- Assumes nothing.
 use mathlib.Core.Path.{_≡_, sym, ap, subst, subst⁻¹, _∙_}
 use mathlib.Core.Logic.{Dec·and}
@@ -15,48 +15,92 @@ use Rattle.model.specs.Errors.{Witness}
 use Rattle.model.specs.Verdict.{Verdict}
 use Rattle.model.specs.Positions.{pos, baseP, baseQ, atG, atP, atQ, factAt}
 use Rattle.model.specs.Memory.{FactCount}
-use Rattle.model.proofs.Lists.{from-one, from-append, gather, from-gather}
+use Rattle.model.proofs.Lists.{from-append, from-cons}
 use Rattle.model.proofs.Monotone.{yields-mono, verdict-cast}
 use Rattle.model.proofs.Least.{derives-closed, least}
 use Rattle.model.proofs.Positions.{stands}
 use Rattle.model.proofs.Counting.{Between, listed-counts}
 use Rattle.model.proofs.Decide.{each?, member?, upTo, upTo-lt, Listed}
-use Rattle.model.proofs.Decide.Yields.{fact?, consequences, yields-listed, closed?}
+use Rattle.model.proofs.Decide.Yields.{fact?, further, further-yields, closed?}
 
--- ---- rounds of the rules
+-- ---- the facts that are found
+
+-- facts that are known to be derivable, and what they yield, with the start facts
+record Search : Type 0 where
+  known : List Fact
+  yielded : List Fact
 
 module _ (T : Table) where
-  -- the start facts, and what one use of a rule yields
-  round : List Fact → List Fact
-  round ds = map (startFact T) (upTo (T .n)) ++ consequences T ds
+  begun : Search
+  begun = record { known = []; yielded = map (startFact T) (upTo (T .n)) }
 
-  round-derives : (ds : List Fact) → ((f : Fact) → List·Memᴰ f ds → Derives T f) → (f : Fact) → List·Memᴰ f (round ds) → Derives T f
-  unfolding round
-  round-derives ds h f =
-      from-append (Derives T) (map (startFact T) (upTo (T .n))) (consequences T ds)
-      (λ f m. let (t, i, e) = Memᴰ·of-map (startFact T) (upTo (T .n)) m in subst (Derives T) e (start t (upTo-lt (T .n) i)))
-      (λ f m. derives-closed T f (yields-mono h f (yields-listed T ds f .1 m)))
+  -- a fact that is yielded and was not known is known
+  looked : (f : Fact) (s : Search) → Dec (List·Memᴰ f (s .known)) → Dec (List·Memᴰ f (s .yielded)) → Search
+  looked f s (yes _) _ = s
+  looked f s (no _) (no _) = s
+  looked f s (no _) (yes _) = record { known = f ∷ s .known; yielded = further T f (s .known) ++ s .yielded }
+
+  -- a look at each fact of a list
+  pass : List Fact → Search → Search
+  pass [] s = s
+  pass (f ∷ fs) s = pass fs (looked f s (member? fact? f (s .known)) (member? fact? f (s .yielded)))
+
+  passes : ℕ → List Fact → Search
+  passes zero fs = begun
+  passes (suc k) fs = pass fs (passes k fs)
+
+  record Derived (s : Search) : Type 0 where
+    known : (f : Fact) → List·Memᴰ f (s .known) → Derives T f
+    yielded : (f : Fact) → List·Memᴰ f (s .yielded) → Derives T f
+
+  begun-derived : Derived begun
+  unfolding begun
+  begun-derived =
+      record {
+        known = λ f m. elim m [ ];
+        yielded = λ f m. let (t, i, e) = Memᴰ·of-map (startFact T) (upTo (T .n)) m in subst (Derives T) e (start t (upTo-lt (T .n) i));
+      }
+
+  looked-derived : (f : Fact) (s : Search) (d : Dec (List·Memᴰ f (s .known))) (e : Dec (List·Memᴰ f (s .yielded)))
+      → Derived s → Derived (looked f s d e)
+  unfolding looked
+  looked-derived f s (yes _) e h = h
+  looked-derived f s (no _) (no _) h = h
+  looked-derived f s (no _) (yes m) h =
+      let all : (g : Fact) → List·Memᴰ g (f ∷ s .known) → Derives T g = λ g n. from-cons (Derives T) (h .yielded f m) (h .known) n in
+      record {
+        known = all;
+        yielded = λ g n.
+            from-append (Derives T) (further T f (s .known)) (s .yielded)
+            (λ g o. derives-closed T g (yields-mono all g (further-yields T f (s .known) g o))) (h .yielded) n;
+      }
+
+  pass-derived : (fs : List Fact) (s : Search) → Derived s → Derived (pass fs s)
+  unfolding pass
+  pass-derived [] s h = h
+  pass-derived (f ∷ fs) s h = pass-derived fs _ (looked-derived f s _ _ h)
+
+  passes-derived : (k : ℕ) (fs : List Fact) → Derived (passes k fs)
+  unfolding passes
+  passes-derived zero fs = begun-derived
+  passes-derived (suc k) fs = pass-derived fs _ (passes-derived k fs)
 
 module _ (T : Table) (fs : List Fact) where
-  -- the facts of the list that k rounds find
+  -- the facts of the list that k passes find
   pub found : ℕ → List Fact
-  found zero = []
-  found (suc k) = let next = round T (found k) in gather (λ f. member? fact? f next) (λ f. f ∷ []) fs
+  found k = passes T k fs .known
 
   found-derives : (k : ℕ) (f : Fact) → List·Memᴰ f (found k) → Derives T f
   unfolding found
-  found-derives zero f m = elim m [ ]
-  found-derives (suc k) f m =
-      let (g, i, j, n) = from-gather _ _ fs m in
-      from-one (Derives T) (round-derives T (found k) (found-derives k) g j) n
+  found-derives k = passes-derived T k fs .known
 
 -- ---- exactness
 
--- fs is exact: closed with the start facts, found whole by k rounds, in position order, and each fact the one at its position. With too
--- few rounds the test says no.
+-- fs is exact: closed with the start facts, found whole by k passes, in position order, and each fact the one at its position. With too
+-- few passes the test says no.
 pub record Exact (T : Table) (k : ℕ) (fs : List Fact) : Type 0 where
   pub closed : ClosedWithStarts T (λ f. List·Memᴰ f fs)
-  pub rounds : (f : Fact) → List·Memᴰ f fs → List·Memᴰ f (found T fs k)
+  pub whole : (f : Fact) → List·Memᴰ f fs → List·Memᴰ f (found T fs k)
   pub order : Between 0 (W T) (map (pos T) fs)
   pub facts : (f : Fact) → List·Memᴰ f fs → factAt T (pos T f) ≡ f
   pub sizes : (0 < T .G) × (0 < T .L)
@@ -67,17 +111,17 @@ between? lo hi [] = decLe lo hi
 between? lo hi (p ∷ ps) = Dec·and (decLe lo p) (between? (suc p) hi ps)
 
 unfoldable pub exact? : (T : Table) (k : ℕ) (fs : List Fact) → Dec (Exact T k fs)
-unfolding each? member? closed? gather upTo consequences round found between? decLt W pos baseP baseQ atG atP atQ factAt
+unfolding each? member? closed? upTo further begun looked pass passes found between? decLt W pos baseP baseQ atG atP atQ factAt
 exact? T k fs =
-    map-dec (λ (c, (r, (o, (f, s)))). record { closed = c; rounds = r; order = o; facts = f; sizes = s })
-    (λ e. (e .closed, (e .rounds, (e .order, (e .facts, e .sizes)))))
+    map-dec (λ (c, (r, (o, (f, s)))). record { closed = c; whole = r; order = o; facts = f; sizes = s })
+    (λ e. (e .closed, (e .whole, (e .order, (e .facts, e .sizes)))))
     (Dec·and (closed? T fs) (Dec·and (each? (λ f. member? fact? f (found T fs k)) fs) (Dec·and (between? 0 (W T) (map (pos T) fs))
     (Dec·and (each? (λ f. fact? (factAt T (pos T f)) f) fs) (Dec·and (decLt 0 (T .G)) (decLt 0 (T .L)))))))
 
 module _ {T : Table} {k : ℕ} {fs : List Fact} (e : Exact T k fs) where
   -- the derivable facts are those of the list
   pub exact-listed : Listed (Derives T) fs
-  exact-listed f = (least (e .closed) f, λ m. found-derives T fs k f (e .rounds f m))
+  exact-listed f = (least (e .closed) f, λ m. found-derives T fs k f (e .whole f m))
 
   -- and their number is its length
   pub exact-count : FactCount T (length fs)

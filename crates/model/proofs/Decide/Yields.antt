@@ -3,7 +3,7 @@
 -- Assumes nothing.
 use mathlib.Core.Path.{_≡_, refl, sym}
 use mathlib.Core.Logic.{_≢_, Dec·and, Dec·not}
-use mathlib.Core.List.{List, [], _∷_, _++_, flatMap, List·Memᴰ, Memᴰ·cast, Memᴰ·append-left, Memᴰ·append-right}
+use mathlib.Core.List.{List, [], _∷_, _++_, flatMap, List·Memᴰ, List·Memᴰ·tail, Memᴰ·cast, Memᴰ·append-left, Memᴰ·append-right}
 use Prim.Native.Nat.{ℕ}
 use native.Mathlib.Decide.{ℕ-discrete, map-dec}
 use Rattle.files.specs.Table.{Table, Step, Push, Pop}
@@ -104,6 +104,11 @@ module _ (T : Table) where
   unfoldable pub consequences : List Fact → List Fact
   unfolding flatMap gather only row? other? byStep byPush byPop byRows byFact
   consequences fs = flatMap (λ p. byRows p ++ flatMap (byFact p) fs) fs
+
+  -- what one more fact yields by the rows, with the others, and they with it
+  unfoldable pub further : Fact → List Fact → List Fact
+  unfolding flatMap gather only row? other? byStep byPush byPop byRows byFact
+  further f fs = byRows f ++ (flatMap (byFact f) fs ++ flatMap (λ p. byFact p f) fs)
 
 -- ---- the list is exact
 
@@ -208,3 +213,17 @@ module _ (T : Table) (fs : List Fact) where
       map-dec (λ (s, c). record { starts = s; closed = λ f y. c f (yields-listed f .0 y) })
       (λ c. (c .starts, λ f m. c .closed f (yields-listed f .1 m)))
       (Dec·and starts? (each? (λ f. member? fact? f fs) (consequences T fs)))
+
+-- ---- one fact more
+
+pub further-yields : (T : Table) (f : Fact) (fs : List Fact) (g : Fact) → List·Memᴰ g (further T f fs) → Yields T (λ x. List·Memᴰ x (f ∷ fs)) g
+unfolding further
+further-yields T f fs g =
+    let all = f ∷ fs in
+    let with = flatMap (byFact T f) fs in
+    let back = flatMap (λ p. byFact T p f) fs in
+    from-append (Yields T (λ x. List·Memᴰ x all)) (byRows T f) (with ++ back) (rows-sound T all f mem-first)
+    (λ g.
+    from-append (Yields T (λ x. List·Memᴰ x all)) with back
+    (λ g m. let (q, j, n) = from-flatMap (byFact T f) fs m in facts-sound T all f q mem-first (List·Memᴰ·tail j) g n)
+    (λ g m. let (p, i, n) = from-flatMap (λ p. byFact T p f) fs m in facts-sound T all p f (List·Memᴰ·tail i) mem-first g n))
