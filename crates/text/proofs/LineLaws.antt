@@ -5,9 +5,8 @@ use mathlib.Core.List.{List, [], _∷_}
 use Prim.Native.Nat.{ℕ, suc, min, _+_, _≤_}
 use native.Mathlib.Decide.{decLe}
 use native.Mathlib.Omega.{arith}
-use lib.ListN.{length, take, getD}
+use lib.ListN.{length, take}
 use lib.Seq.{take-all}
-use Rattle.files.proofs.TableLaws.{four-numbers}
 use Rattle.words.specs.Text.{Written}
 use Rattle.model.specs.Rules.{Fact, G, P, Q}
 use Rattle.text.specs.declared.facts.FactFields.{FactFields}
@@ -43,7 +42,7 @@ take-least n ls = go (decLe n (length ls))
     go (no h) = take-all (min n (length ls)) ls (omega arith) ∙ sym (take-all n ls (omega arith))
 
 pub row-g-locals : (row g n : ℕ) (ls : List ℕ) → length ls ≡ 4
-    → take (2 + min n 4) (row ∷ g ∷ getD ls 0 0 ∷ getD ls 1 0 ∷ getD ls 2 0 ∷ getD ls 3 0 ∷ []) ≡ row ∷ g ∷ take n ls
+    → take (2 + min n 4) (row ∷ g ∷ ls) ≡ row ∷ g ∷ take n ls
 row-g-locals row g n ls e =
     let two : 2 + min n 4 ≡ suc (suc (min n (length ls))) = omega arith in
-    rw (two, four-numbers ls e, take-least)
+    rw (two, take-least)

@@ -1,6 +1,7 @@
 // The lines of the listing, and those of the programs on claims.
 ghost use Prim.Native.Nat.{_<_, min};
 ghost use mathlib.Core.Path.{_≡_};
+ghost use mathlib.Core.List.{_∷_};
 ghost use lib.ListN.{take};
 ghost use Rattle.positions.specs.Plans.{Planned};
 ghost use Rattle.words.specs.Text.{Written};
@@ -35,6 +36,13 @@ fn at_most_four(n: usize) -> usize
     if n < 4 { n } else { 4 }
 }
 
+// The numbers of a witness: its row, its shared store and its local stores.
+fn witness_numbers(row: usize, g: usize, locals: [usize; 4]) -> [usize; 6]
+    ensures { λ r. ⌜ r ≡ row ∷ g ∷ locals ⌝ }
+{
+    [row, g, locals[0], locals[1], locals[2], locals[3]]
+}
+
 // The line of the verdict "possible", with the witness: its row, its shared store, and the local stores of the first n threads.
 pub fn possible_line(
     row: usize,
@@ -45,11 +53,7 @@ pub fn possible_line(
 ) -> usize
     ensures { λ r. ⌜ Written (possibleLine row g (take n locals)) (now (out .entry)) (now (out .exit)) r ⌝ }
 {
-    let l0 = locals[0];
-    let l1 = locals[1];
-    let l2 = locals[2];
-    let l3 = locals[3];
-    let numbers = [row, g, l0, l1, l2, l3];
+    let numbers = witness_numbers(row, g, locals);
     let count = 2 + at_most_four(n);
     put_line(out, b"verdict possible", &numbers[..count])
 }

@@ -8,17 +8,8 @@ use Rattle.text.proofs.LineLaws.{row-g-locals}
 use Rattle.text.proofs.lines.possible_line.Statement.{statement}
 use Rattle.text.proofs.lines.possible_line.Tie as tie
 
-array-read-l0 : tie.Need-array-read-l0
-array-read-l0 c = search needs
-
-array-read-l1 : tie.Need-array-read-l1
-array-read-l1 c = search needs
-
-array-read-l2 : tie.Need-array-read-l2
-array-read-l2 c = search needs
-
-array-read-l3 : tie.Need-array-read-l3
-array-read-l3 c = search needs
+witness-numbers-requires : tie.Need-witness-numbers-requires
+witness-numbers-requires c κs = search needs
 
 at-most-four-requires : tie.Need-at-most-four-requires
 at-most-four-requires c κs = search needs
@@ -40,18 +31,17 @@ put-line-requires c κs = simp length-take (omega arith)
 
 returns : tie.Need-returns
 returns c =
-    let start = c .before .before .before .before .before in
-    let numbers = row-g-locals (start .args .row) (start .args .g) (start .args .n) (start .args .t3) (omega arith) in
-    rw (sym numbers) (rw (c .before .before .before .before .at-most-four .ensures) at (c .put-line .ensures))
+    let four : tie.After-at-most-four = c .before .before .before .before in
+    let six : tie.After-witness-numbers = four .before in
+    let x = six .before .args in
+    let numbers = row-g-locals (x .row) (x .g) (x .n) (x .locals) (omega arith) in
+    rw (sym numbers) (rw (six .witness-numbers .ensures, four .at-most-four .ensures) at (c .put-line .ensures))
 
 pub possible-line-spec : {M : Type 1} → statement M
 possible-line-spec =
     tie.close
     (tie.spec
-    array-read-l0
-    array-read-l1
-    array-read-l2
-    array-read-l3
+    witness-numbers-requires
     at-most-four-requires
     add-count
     slice-aggregate-put-line
