@@ -1,5 +1,5 @@
 -- The laws of a row, from the bottom up:
---   RowMemory     five bytes a row; runs of stores; a wiped memory
+--   RowMemory     five cells of a row; a run of stores over a whole memory
 --   RowLaws       cells and rows, and the loop that reads a row
 --   RowFits       a row that was read fits its columns
 --   StageLaws     what the answer of reading a row tells

@@ -1,16 +1,14 @@
--- Rows in memory, five bytes a row.
---     five-stored     five stores, one after the other, store a row
---     Wiped, wipe-…   the bytes before place i are 0
---     sets-whole      a run of stores over the whole memory leaves nothing of what was there
+-- A row in memory.
+--     five-cells   a row of five cells, cell by cell
+--     sets-whole   a run of stores over the whole memory leaves nothing of what was there
 -- Assumes nothing.
-use mathlib.Core.Path.{_≡_, refl, sym, ap, _∙_}
+use mathlib.Core.Path.{_≡_, refl, _∙_}
 use mathlib.Core.List.{List, [], _∷_, append-nil}
-use Prim.Native.Nat.{ℕ, suc, _+_, _≤_, _<_}
+use Prim.Native.Nat.{ℕ}
 use native.Mathlib.Omega.{arith}
-use native.Mathlib.Numerals.{add-one}
 use native.Mathlib.Nat.{zero-add}
-use lib.ListN.{length, getD, set, take, replicate, length-set, replicate-append-replicate}
-use lib.Seq.{sets, sets-eq, drop-length, take-all, take-suc-set}
+use lib.ListN.{length, getD}
+use lib.Seq.{sets, sets-eq, drop-length}
 
 -- a row of five cells, cell by cell
 pub five-cells : (r : List ℕ) → length r ≡ 5 → r ≡ getD r 0 0 ∷ getD r 1 0 ∷ getD r 2 0 ∷ getD r 3 0 ∷ getD r 4 0 ∷ []
@@ -22,42 +20,5 @@ five-cells (_ ∷ _ ∷ _ ∷ _ ∷ []) h = absurd (omega arith)
 five-cells (_ ∷ _ ∷ _ ∷ _ ∷ _ ∷ []) h = refl
 five-cells (_ ∷ _ ∷ _ ∷ _ ∷ _ ∷ _ ∷ _) h = absurd (omega arith)
 
-five-sets : (d : List ℕ) (b v w x y z : ℕ)
-    → set (set (set (set (set d b v) (b + 1) w) (b + 2) x) (b + 3) y) (b + 4) z ≡ sets d b (v ∷ w ∷ x ∷ y ∷ z ∷ [])
-five-sets d b v w x y z =
-    let e₁ : b + 1 ≡ suc b = omega arith in
-    let e₂ : b + 2 ≡ suc (suc b) = omega arith in
-    let e₃ : b + 3 ≡ suc (suc (suc b)) = omega arith in
-    let e₄ : b + 4 ≡ suc (suc (suc (suc b))) = omega arith in
-    rw (e₁, e₂, e₃, e₄)
-
-pub five-stored : (d r : List ℕ) (b : ℕ) → length r ≡ 5
-    → set (set (set (set (set d b (getD r 0 0)) (b + 1) (getD r 1 0)) (b + 2) (getD r 2 0)) (b + 3) (getD r 3 0)) (b + 4) (getD r 4 0) ≡ sets d b r
-five-stored d r b h = five-sets d b _ _ _ _ _ ∙ ap (sets d b) (sym (five-cells r h))
-
 pub sets-whole : (vs d : List ℕ) → length vs ≡ length d → sets d 0 vs ≡ vs
 sets-whole vs d h = sets-eq vs d 0 (omega arith) ∙ rw (zero-add (length vs), h, drop-length) (append-nil vs)
-
--- ---- the loop that wipes a memory
-
-pub record Wiped (d₀ d : List ℕ) (i : ℕ) : Type 0 where
-  pub long : length d ≡ length d₀
-  pub up : i ≤ length d₀
-  pub zeros : take i d ≡ replicate i 0
-
-pub wipe-start : {d : List ℕ} → Wiped d d 0
-wipe-start = record { long = refl; up = omega arith; zeros = refl }
-
-module _ {d₀ d : List ℕ} {i : ℕ} (w : Wiped d₀ d i) where
-  pub wipe-more : i < length d → Wiped d₀ (set d i 0) (i + 1)
-  wipe-more h =
-      record {
-        long = length-set d i 0 ∙ w .long;
-        up = omega arith;
-        zeros = rw (add-one i) (take-suc-set d i 0 h ∙ rw (w .zeros) (replicate-append-replicate i 1 0 ∙ rw (add-one i)));
-      }
-
-  pub wipe-end : length d ≤ i → d ≡ replicate (length d₀) 0
-  wipe-end h =
-      let last : i ≡ length d₀ = omega (arith, w .long, w .up) in
-      sym (take-all i d h) ∙ w .zeros ∙ rw last

@@ -1,11 +1,6 @@
 -- Two results that a contract allows are equal: for each public function, of its contract as the prover reads it from the source (`Post`).
--- Every contract here is an equation for the answer and for the memory, so both results equal the same.
+-- Every contract here is an equation for the answer, so both results equal the same.
 -- Assumes nothing.
-use mathlib.Core.Path.{_≡_}
-use contract.Lifetimes.{Lfts}
-use denote.Ref.{now}
-use denote.Triple.Clauses.{AtExit}
-use borrow.Fn.Kinds.{Dens, resT, endedOf}
 use Rattle.numbers.proofs.Unique.{same, Fixes}
 use Rattle.cells.proofs.columns.of_thread.Reads as of-thread
 use Rattle.cells.proofs.columns.of_thread.Kinds as of-thread-kinds

@@ -7,7 +7,7 @@ use Prim.Native.Nat.{ℕ}
 use contract.Lifetimes.{Lfts}
 use denote.Ref.{now}
 use denote.Triple.Clauses.{AtExit}
-use borrow.Fn.Kinds.{Dens, resT, endedOf}
+use borrow.Fn.Kinds.{Dens, endedOf}
 use Rattle.numbers.proofs.Unique.{same, Fixes}
 use Rattle.claim_bytes.specs.Writing.{ClaimPut}
 use Rattle.claim_bytes.proofs.writing.claim_width.Reads as claim-width

@@ -1,19 +1,18 @@
 -- The invariants of the loops over the marked positions.
 -- Assumes nothing.
 use mathlib.Core.Path.{_≡_, refl, sym, ap, _∙_}
-use mathlib.Core.List.{List, [], _∷_, _++_, flatMap}
+use mathlib.Core.List.{List}
 use Prim.Native.Nat.{ℕ, _+_, _-_, _*_, _≤_, _<_}
 use native.Mathlib.Omega.{arith}
 use native.Mathlib.Nat.{sub-zero, add-zero, zero-add}
 use lib.ListN.{length, length-append}
 use lib.Seq.{sets, length-sets}
 use Rattle.numbers.specs.Writing.{bytesOf}
-use Rattle.numbers.proofs.WritingLaws.{one-to-four-bytes}
 use Rattle.numbers.specs.Putting.{Put}
 use Rattle.numbers.proofs.PutLaws.{sets-append, put-then}
 use Rattle.store.specs.Marking.{NextMark}
 use Rattle.claim_bytes.specs.declared.writing.Sizes.{Sizes}
-use Rattle.claim_files.specs.ClaimFile.{distancesFrom, bytesOfAll, claimBytes}
+use Rattle.claim_files.specs.ClaimFile.{claimBytes}
 use Rattle.claim_bytes.specs.Writing.{ClaimPut}
 use Rattle.claim_files.specs.Marks.{markedFrom, positionsIn}
 use Rattle.claim_files.specs.Stages.{positionBytes}

@@ -1,5 +1,5 @@
 -- The definitions compute: document 01's claims for the recursion table, whose W is 36, are read and written by evaluation. The single table of
--- all cases of document 01 stands in the top crate, over `claims`.
+-- all cases of document 01 stands in crate claims, over `claims` of this file.
 -- Assumes nothing.
 use mathlib.Core.Path.{_≡_, refl}
 use mathlib.Core.List.{List, [], _∷_, flatMap}

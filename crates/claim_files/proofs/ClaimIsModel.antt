@@ -1,7 +1,7 @@
 -- A memory in which a claim of a table's facts is marked holds the claimed facts; and the claim that is written from a memory that holds a
 -- set of facts claims these facts, as many as there are.
 -- Assumes nothing.
-use mathlib.Core.Path.{_≡_, refl}
+use mathlib.Core.Path.{_≡_}
 use mathlib.Core.List.{List}
 use Prim.Native.Nat.{ℕ, _≤_}
 use native.Mathlib.Omega.{arith}

@@ -19,7 +19,7 @@ use Rattle.claim_files.proofs.ClaimLaws.{claim-listed}
 
 -- ---- a memory with many marks
 
-pub all-room : (ps mem : List ℕ) → room (markedAll mem ps) ≡ room mem
+all-room : (ps mem : List ℕ) → room (markedAll mem ps) ≡ room mem
 unfolding markedAll
 all-room [] mem = refl
 all-room (p ∷ ps) mem = all-room ps (marked mem p) ∙ put-room mem p

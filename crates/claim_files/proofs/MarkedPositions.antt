@@ -30,7 +30,7 @@ module _ (mem : List ℕ) (p k : ℕ) where
   unfolding markedFrom Has
   marked-skip h = simp (ne-eqb (mark mem p) 1 h)
 
-pub marked-most : (mem : List ℕ) (p k : ℕ) → length (markedFrom mem p k) ≤ k
+marked-most : (mem : List ℕ) (p k : ℕ) → length (markedFrom mem p k) ≤ k
 marked-most mem p zero = rw marked-none (omega arith)
 marked-most mem p (suc k) = go (has? mem p) (marked-most mem (p + 1) k)
   where

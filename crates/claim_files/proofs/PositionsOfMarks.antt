@@ -102,7 +102,7 @@ positions-of-marks w mem =
     }
 
 -- there is one such list
-pub marked-same : {w : ℕ} {mem ps qs : List ℕ} → AreMarked w mem ps → AreMarked w mem qs → ps ≡ qs
+marked-same : {w : ℕ} {mem ps qs : List ℕ} → AreMarked w mem ps → AreMarked w mem qs → ps ≡ qs
 marked-same {w} {mem} {ps} {qs} a b =
     ascending-same w 0 0 ps qs (a .ascending) (b .ascending)
     (λ p i. let h = a .marked p i in b .listed p (h .0) (h .1))

@@ -1,13 +1,13 @@
--- What reading a claim answers (document 01, "Working memory and claims"). Only contracts of functions that ask for a memory or a claim cite it.
+-- What reading a claim answers (document 01, "Working memory and claims"). Only contracts of functions that ask for the W of a table, a claim or a
+-- memory cite it.
 use Prim.Native.Nat.{ℕ}
 use mathlib.Core.Path.{_≡_}
 use mathlib.Core.List.{List, []}
 use lib.ListN.{length}
-use lib.Seq.{sets}
 use Rattle.numbers.specs.Reading.{Out, got, bad}
 use Rattle.claim_files.specs.declared.reading.Claimed.{Claimed}
 use Rattle.claim_files.specs.declared.reading.Claimed.the-variants as claimed
-use Rattle.claim_files.specs.ClaimFile.{claimAt, claimBytes}
+use Rattle.claim_files.specs.ClaimFile.{claimAt}
 
 -- s is read as a claim
 pub record IsClaim (w : ℕ) (s : List ℕ) : Type 0 where

@@ -1,7 +1,6 @@
--- What the private functions answer. Only their contracts cite this file.
+-- A memory while it is marked, and the bytes of a part of a claim. Only contracts of private functions, here and in claim_bytes, cite this file.
 use mathlib.Core.List.{List, [], _∷_}
 use Prim.Native.Nat.{ℕ}
-use lib.ListN.{length}
 use Rattle.store.specs.Marking.{marked}
 use Rattle.claim_files.specs.ClaimFile.{distancesFrom, bytesOfAll}
 

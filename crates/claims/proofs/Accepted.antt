@@ -1,6 +1,6 @@
 -- What it means that a claim is accepted: the table is sound, the claimed facts are a closed set with the start facts and allow no error, so no
 -- run of the table meets an error state. And where the verdict on a table is "possible", no claim for it is accepted.
---     accepted-table, accepted-claim                             the table and the claim were read
+--     accepted-claim                                             the claim was read
 --     accepted-sound, -closed, -safe, -counts, accepted-runs     what holds of them
 --     possible-never-accepted, check-possible-never-accepted     by the verdict, and by the check's answer
 --     check-safe-runs                                            what it means that the check says "safe"
@@ -32,7 +32,7 @@ use Rattle.claim_files.specs.ClaimFile.{claimAt}
 use Rattle.claim_files.proofs.ClaimIsModel.{claim-counts}
 use Rattle.claim_checking.specs.declared.answer.ClaimAnswer.the-variants.{Accepted}
 use Rattle.claim_checking.specs.ClaimChecking as claims
-use Rattle.claim_checking.specs.ClaimChecking.{Accepts, OfPositions, OfTable, claim-read, ClaimChecked, table-read}
+use Rattle.claim_checking.specs.ClaimChecking.{Accepts, OfPositions, OfTable, claim-read, ClaimChecked}
 use Rattle.claim_checking.proofs.ClaimCases.{table-was-read, claim-was-read, answer-by-finding}
 use Rattle.claims.specs.Owed.{IsAccepted}
 
@@ -55,9 +55,6 @@ accepted-file (claim-read {ps} {next} h e o) =
     record { positions = ps; next = next; reads = e; counted = k; accepts = a }
 
 module _ {s c m m′ : List ℕ} {count : ℕ} where
-  pub accepted-table : ClaimChecked s c m (Accepted count) m′ → (T : Table) × (n : ℕ) × (tableAt s ≡ got T n)
-  accepted-table (table-read {T} {next} e o) = (T, next, e)
-
   module _ {T : Table} {n : ℕ} (e : tableAt s ≡ got T n) (h : ClaimChecked s c m (Accepted count) m′) where
     pub accepted-claim : AcceptedClaim T c m count m′
     accepted-claim = accepted-file (table-was-read e h)

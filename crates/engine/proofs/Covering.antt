@@ -1,16 +1,16 @@
 -- How work under way goes on: with a pass over more uses, with other names for the same uses, and to a round that begins anew. Each law has two
 -- sides, as those of passes have.
 -- Assumes nothing.
-use mathlib.Core.Path.{_≡_, refl, sym, subst, _∙_}
+use mathlib.Core.Path.{_≡_, refl, subst, _∙_}
 use mathlib.Core.Bool.{Bool, true, false}
 use mathlib.Core.Logic.{_⊎_, inl, inr}
 use mathlib.Core.List.{List}
-use Prim.Native.Nat.{ℕ, _+_, _<_, _≤_}
+use Prim.Native.Nat.{ℕ, _<_, _≤_}
 use native.Mathlib.Omega.{arith}
 use Rattle.store.specs.Marking.{room}
 use Rattle.uses.specs.declared.lines.Pass.{Pass}
 use Rattle.uses.specs.Uses.{Uses, Either, Lacks}
-use Rattle.uses.specs.Passing.{Puts, Looked, Swept, looks, puts}
+use Rattle.uses.specs.Passing.{Swept, looks, puts}
 use Rattle.engine.specs.Turns.{Covered, looking, putting}
 use Rattle.engine.specs.Working.{Worked, looked, settled}
 use Rattle.uses.proofs.PassLaws.{puts-idle, puts-then, puts-to, puts-le, puts-none, puts-room, looked-idle, looked-then, either, lacks-to, first-to}

@@ -1,4 +1,4 @@
--- The engine's laws, from uses at positions up to what a run comes to:
+-- The engine's laws, from what is given up to what a run comes to:
 --   GivenLaws         what is given of a sound table is in range
 --   NextRow           the next row with a mark
 --   EmptyRows         a row of facts with no mark gives nothing

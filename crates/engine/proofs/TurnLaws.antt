@@ -1,25 +1,24 @@
 -- The turns: what the first one is, what follows on one, and that the last ends the work.
 -- Assumes nothing.
-use mathlib.Core.Path.{_≡_, refl, sym, subst, _∙_}
-use mathlib.Core.Bool.{Bool, true, false}
-use mathlib.Core.Logic.{_⊎_, inl, inr}
+use mathlib.Core.Path.{_≡_, refl, sym, subst}
+use mathlib.Core.Bool.{Bool}
+use mathlib.Core.Logic.{inl, inr}
 use mathlib.Core.List.{List}
-use Prim.Native.Nat.{ℕ, _+_, _*_, _-_, _/_, _%_, _<_, _≤_}
+use Prim.Native.Nat.{ℕ, _+_, _*_, _-_, _<_, _≤_}
 use native.Mathlib.Nat.{not-suc-le-zero, mul-le-mul-right}
 use native.Mathlib.Decide.{decLt}
 use native.Mathlib.Omega.{arith}
 use Rattle.positions.specs.declared.plan.Plan.{Plan}
 use Rattle.store.specs.declared.rows.RowCounts.{RowCounts}
-use Rattle.store.specs.Marking.{SomeIn}
 use Rattle.positions.specs.Plans.{Planned}
 use Rattle.uses.specs.declared.lines.Pass.{Pass}
 use Rattle.engine.specs.declared.turns.Turn.{Turn}
 use Rattle.engine.specs.InRange.{Given}
-use Rattle.uses.specs.Uses.{Uses, Either, Under, Upto, Lacks}
+use Rattle.uses.specs.Uses.{Uses, Either, Under, Upto}
 use Rattle.uses.specs.Passing.{Swept}
 use Rattle.uses.specs.AllUses.{PRow, QRows, AllUses}
 use Rattle.engine.specs.Working.{Worked}
-use Rattle.engine.specs.Turns.{rowsOf, NextRow, Covered, Behind, Turning, RowsDone, Goes, turnsLeft}
+use Rattle.engine.specs.Turns.{rowsOf, NextRow, Covered, Behind, Turning, RowsDone, Goes}
 use Rattle.uses.proofs.PassLaws.{swept-idle}
 use Rattle.engine.proofs.EmptyRows.{p-row-some}
 use Rattle.uses.proofs.RowNumbers.{rows-pos}

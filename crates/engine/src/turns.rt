@@ -1,6 +1,6 @@
 // Whose turn it is. The rows of P facts have their turns one after the other; a row that gave something has its turn again, so that a chain of
-// rows costs no more than a walk over all rows for each fact. After the last row the Q facts are gone over, which ends the round. Rounds go on
-// until one puts nothing. In which order the work goes is free: it puts only what a rule gives, and the last round goes over every use.
+// rows costs no more than a walk over all rows for each fact. After the last row the Q facts are gone over, unless the round put many marks; so
+// the round ends. Rounds go on until one puts nothing. In which order the work goes is free: it puts only what a rule gives, and the last round goes over every use.
 ghost use mathlib.Core.Path.{_≡_};
 ghost use mathlib.Core.List.{List};
 ghost use Prim.Native.Nat.{ℕ, _+_, _*_, _/_, _%_, _<_, _≤_};

@@ -1,5 +1,5 @@
 -- The definitions compute: document 01's reference files are read by evaluation, in a moment. The single table of all cases of document 01
--- stands in the top crate, over `reads`.
+-- stands in crate claims, over `reads`.
 -- Assumes nothing.
 use mathlib.Core.Path.{_≡_, refl}
 use mathlib.Core.List.{List, [], _∷_}

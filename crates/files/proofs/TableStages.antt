@@ -45,7 +45,7 @@ held-long : (o : Out (List (List ℕ))) (m : List ℕ) → length (listHeld o m)
 held-long (got rs n) m = length-sets m 0 (flat rs)
 held-long (bad x) m = length-replicate (length m) 0
 
-pub stage-long : {e : End} {most : ℕ} {cs : List Column} {s : List ℕ} {a : ListRead} {m m′ : List ℕ} → Stage e most cs s a m m′ → length m′ ≡ length m
+stage-long : {e : End} {most : ℕ} {cs : List Column} {s : List ℕ} {a : ListRead} {m m′ : List ℕ} → Stage e most cs s a m m′ → length m′ ≡ length m
 stage-long {e} {most} {cs} {s} {m} t = ap length (t .kept) ∙ held-long (listAfter e most cs s) m
 
 -- a list that was read: its answer, and its rows in memory
@@ -114,7 +114,7 @@ module _ {s : List ℕ} {top : HeaderRead} {a b c d : ListRead} {m₁ m₂ m₃ 
       (listAt mostPops (popColumns (h .sizes)) s) (listAt mostErrors (errorColumns (h .sizes)) s) (listAt mostSteps (stepColumns (h .sizes)) s p))
   by-header (bad x) e = rw (t .errors .read, t .pops .read, t .pushes .read, t .steps .read, e)
 
-  pub stages-end : endAfter (d .end) s ≡ endOf (tableAt s)
+  stages-end : endAfter (d .end) s ≡ endOf (tableAt s)
   unfolding tableAt
   stages-end = by-header (headerAt s) (t .header)
 

@@ -8,7 +8,7 @@ use mathlib.Core.Path.{_≡_}
 use mathlib.Core.List.{List}
 use Prim.Native.Nat.{ℕ, _≤_, _<_}
 use native.Mathlib.Omega.{arith}
-use Rattle.files.specs.Table.{Table, Sound, W}
+use Rattle.files.specs.Table.{Table, Sound}
 use Rattle.model.specs.Rules.{Starts, ClosedWithStarts}
 use Rattle.model.specs.Memory.{Marked}
 use Rattle.model.specs.Claims as model

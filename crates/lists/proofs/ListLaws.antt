@@ -1,6 +1,6 @@
 -- Laws of the next row and of a list of rows, and the invariant of the loop that reads one.
 --     next-yes, -no, -bad, -first    what `nextRow` gives, one law for each way that it goes
---     next-row, next-above           what is known of a next row that was read
+--     next-got                       what is known of a next row that was read
 --     list-counted, -uncounted       what `listAt` gives, by its count
 --     Listing, list-…                i rows are read and stand in memory, and the rest of the list stands from p on
 -- Assumes nothing.
@@ -56,13 +56,13 @@ module _ (old : List ℕ) (cs : List Column) (s : List ℕ) (at : ℕ) where
       let q = taken (below old (p .first)) (p .first) r (p .place) n refl (p .rest) in
       (p .was ∙ q .0, q .1)
 
-pub below-none : (r : List ℕ) → length r ≡ 5 → true ≡ below [] r
+below-none : (r : List ℕ) → length r ≡ 5 → true ≡ below [] r
 unfolding below
 below-none [] e = absurd (omega arith)
 below-none (x ∷ r) e = refl
 
 -- the row before row i
-pub old-none : (i : ℕ) (old : List ℕ) → i ≡ 0 → oldOf i old ≡ []
+old-none : (i : ℕ) (old : List ℕ) → i ≡ 0 → oldOf i old ≡ []
 old-none zero old e = refl
 old-none (suc i) old e = absurd (omega arith)
 

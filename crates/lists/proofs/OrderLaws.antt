@@ -13,7 +13,7 @@ use lib.ListN.{length, getD, drop}
 use lib.Seq.{drop-cons, drop-length}
 use Rattle.lists.specs.Order.{below}
 
-pub below-less : (a b : ℕ) (l m : List ℕ) → a < b → below (a ∷ l) (b ∷ m) ≡ true
+below-less : (a b : ℕ) (l m : List ℕ) → a < b → below (a ∷ l) (b ∷ m) ≡ true
 unfolding below
 below-less a b l m h = simp (ne-eqb a b (λ e. omega arith), lt-ltb _ _ h)
 
@@ -21,11 +21,11 @@ pub below-more : (a b : ℕ) (l m : List ℕ) → b < a → below (a ∷ l) (b �
 unfolding below
 below-more a b l m h = simp (ne-eqb a b (λ e. omega arith), le-ltb a b (omega arith))
 
-pub below-same : (a b : ℕ) (l m : List ℕ) → a ≡ b → below (a ∷ l) (b ∷ m) ≡ below l m
+below-same : (a b : ℕ) (l m : List ℕ) → a ≡ b → below (a ∷ l) (b ∷ m) ≡ below l m
 unfolding below
 below-same a b l m h = simp (eq-eqb a b h)
 
-pub below-nil : (l : List ℕ) → below l [] ≡ false
+below-nil : (l : List ℕ) → below l [] ≡ false
 unfolding below
 below-nil l = refl
 
@@ -33,7 +33,7 @@ below-nil l = refl
 
 pub record Equal (old new : List ℕ) (j : ℕ) : Type 0 where
   pub five : length old ≡ 5
-  pub five′ : length new ≡ 5
+  five′ : length new ≡ 5
   pub up : j ≤ 5
   pub same : below old new ≡ below (drop j old) (drop j new)
 

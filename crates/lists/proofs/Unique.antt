@@ -6,7 +6,7 @@ use contract.Lifetimes.{Lfts}
 use denote.Ref.{now}
 use denote.Triple.Clauses.{AtExit}
 use borrow.Fn.Kinds.{Dens, resT, endedOf}
-use Rattle.numbers.proofs.Unique.{same, Fixes}
+use Rattle.numbers.proofs.Unique.{same}
 use Rattle.lists.specs.declared.list.ListRead.{ListRead}
 use Rattle.lists.proofs.list.wipe.Reads as wipe
 use Rattle.lists.proofs.list.wipe.Kinds as wipe-kinds

@@ -1,4 +1,4 @@
--- What lists of rows mean (document 01, "The table, in file order"). The public contracts cite
+-- What lists of rows mean (document 01, "The table, in file order"). The contracts of `files` and of the calls cite
 --   Order        rows compared number by number
 --   Lists        reading lists of rows
 -- the contract of `list_after`, which asks for room, besides

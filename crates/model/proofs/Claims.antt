@@ -10,12 +10,12 @@ use native.Mathlib.Decide.{ℕ-discrete, map-dec}
 use native.Mathlib.Omega.{arith}
 use lib.ListN.{length}
 use Rattle.files.specs.Table.{Table, Sound, W}
-use Rattle.model.specs.Rules.{Fact, startFact, Starts, Closed}
+use Rattle.model.specs.Rules.{Fact, Closed}
 use Rattle.model.specs.Errors.{Witness}
 use Rattle.model.specs.Verdict.{SmallestWitness}
 use Rattle.model.specs.Positions.{Fits, pos, factAt}
 use Rattle.model.specs.Memory.{mark, Says, Holds, Marked}
-use Rattle.model.specs.Claims.{Claimed, First, LacksStart, Missing, AllowsRow}
+use Rattle.model.specs.Claims.{Claimed, First, Missing, AllowsRow}
 use Rattle.model.proofs.Monotone.{yields-mono}
 use Rattle.model.proofs.Positions.{pos-lt, factAt-pos, factAt-inj, factAt-stands}
 use Rattle.model.proofs.InRange.{fits-closed-with-starts}
@@ -27,11 +27,6 @@ use Rattle.model.proofs.Order.{head-le}
 module _ {T : Table} (sound : Sound T) (mem : List ℕ) where
   marked? : (f : Fact) → Fits T f → Dec (Marked T mem f)
   marked? f i = map-dec (λ e. record { fits = i; one = e }) (λ m. m .one) (ℕ-discrete (mark mem (pos T f)) 1)
-
-  pub none-lacking-starts : ((t : ℕ) → ¬ LacksStart T (Marked T mem) t) → Starts T (Marked T mem)
-  none-lacking-starts none t h =
-      let i : Fits T (startFact T t) = fits-closed-with-starts sound .starts t h in
-      Dec·not-not (marked? (startFact T t) i) .0 (λ n. none t (record { thread = h; not = n }))
 
   pub none-missing-closed : ((p : ℕ) → ¬ Missing T (Marked T mem) p) → Closed T (Marked T mem)
   none-missing-closed none f y =

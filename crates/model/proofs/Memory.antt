@@ -84,7 +84,7 @@ module _ {T : Table} {S : Fact → Type 0} {mem : List ℕ} (h : Holds T S mem) 
   pub total-counts : CountOf T S (total mem (W T))
   total-counts = total-counts-to (W T) (omega arith)
 
-pub holds-cast : {T : Table} {S S′ : Fact → Type 0} {mem : List ℕ} → ((f : Fact) → S f → S′ f) → ((f : Fact) → S′ f → S f)
+holds-cast : {T : Table} {S S′ : Fact → Type 0} {mem : List ℕ} → ((f : Fact) → S f → S′ f) → ((f : Fact) → S′ f → S f)
     → Holds T S mem → Holds T S′ mem
 holds-cast to fro h = record { long = h .long; says = λ p l. says-cast (to _) (fro _) (h .says p l) }
 
@@ -97,7 +97,7 @@ module _ {T : Table} (sound : Sound T) {mem : List ℕ} (bits : Bits T mem) wher
       let at = factAt-stands sound p l in
       says-cast (λ e. record { fits = at .fits; one = rw (at .here) e }) (λ m. rw (at .here) at (m .one)) (bit-says (mark mem p) (bits p l))
 
-  pub marked-held : W T ≤ length mem → Holds T (Marked T mem) mem
+  marked-held : W T ≤ length mem → Holds T (Marked T mem) mem
   marked-held long = record { long = long; says = marks-say }
 
   module _ (sub : (f : Fact) → Marked T mem f → Derives T f) where

@@ -11,7 +11,6 @@ use Prim.Native.Nat.{ℕ, zero, suc, _+_, _*_}
 use native.Mathlib.Decide.{ℕ-discrete}
 use native.Mathlib.Omega.{arith}
 use lib.ListN.{length}
-use Rattle.files.specs.Table.{Table}
 use Rattle.training.specs.Training.{training, mutex}
 use Rattle.model.specs.Rules.{Fact, G, P, Derives}
 use Rattle.model.specs.Memory.{FactCount}

@@ -1,4 +1,12 @@
--- The laws of numbers and refusals. A caller cites ReadingLaws, NumberLaws, FieldLaws, VersionLaws, WritingLaws, PutLaws and RoundTrip.
+-- The laws of numbers and refusals:
+--   ReadingLaws  what reading a part of a file gives
+--   NumberLaws   a number that is read
+--   WritingLaws  how a number is written
+--   PutLaws      what is put, and then something else at the place past it
+--   RoundTrip    reading and writing a number undo one another
+--   FieldLaws    a number that has a range
+--   VersionLaws  the version that a file begins with
+--   Unique       two results that a contract allows are equal
 pub mod ReadingLaws
 pub mod NumberLaws
 pub mod WritingLaws

@@ -93,7 +93,7 @@ module _ (s : List ℕ) (bs : Bytes s) where
       let above : Written s left (at + 1) w n = accepted-written left a in
       record { stand = rw d (h, refl, above .stand); past = rw d (omega arith) }
 
-pub stands-part : (bs s : List ℕ) (at : ℕ) → Stands s at bs → take (length bs) (drop at s) ≡ bs
+stands-part : (bs s : List ℕ) (at : ℕ) → Stands s at bs → take (length bs) (drop at s) ≡ bs
 stands-part [] s at st = refl
 stands-part (b ∷ bs) s at st =
     let r : take (length bs) (drop (suc at) s) ≡ bs = stands-part bs s (suc at) (rw (add-one at) at (st .2)) in

@@ -29,11 +29,11 @@ module _ (left value : ℕ) where
   digits-more h = simp (le-ltb _ _ h)
 
 -- one byte at least, and no more than groups
-pub digits-some : (left value : ℕ) → 1 ≤ length (digits (suc left) value)
+digits-some : (left value : ℕ) → 1 ≤ length (digits (suc left) value)
 unfolding digits
 digits-some left value = pick-either (λ (l : List ℕ). 1 ≤ length l) (ltb value 128) (omega arith) (omega arith)
 
-pub digits-most : (left value : ℕ) → length (digits left value) ≤ left
+digits-most : (left value : ℕ) → length (digits left value) ≤ left
 unfolding digits
 digits-most zero value = omega arith
 digits-most (suc left) value =

@@ -1,5 +1,5 @@
 -- A table's plan gives model's positions: each formula of the document, with pairs for places, is the plan's. Pairs are numbers below
--- k = G * L, so a fact from the pair j stands a line's step times j from the fact from pair 0.
+-- k = G * L, so a fact from the pair j stands j * k places after the fact from pair 0.
 -- Assumes nothing.
 use mathlib.Core.Path.{_≡_, refl, ap, _∙_}
 use Prim.Native.Nat.{ℕ, _+_, _*_, _/_, _%_, _<_}

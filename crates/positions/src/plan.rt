@@ -1,4 +1,4 @@
-// The plan of a table: its sizes, worked out once, and the only code that computes positions.
+// The plan of a table: its sizes, worked out once, and where facts and rows of facts stand by them.
 ghost use mathlib.Core.Path.{_≡_};
 ghost use Prim.Native.Nat.{_+_, _*_, _<_, _≤_};
 ghost use Rattle.positions.specs.Plans.{Planned, pair, pAt, pFrom, qFrom, gAt, sized};

@@ -12,8 +12,7 @@ use lib.Dec.{eqb}
 use borrow.Author.Tests.{eqb-true, eqb-false}
 use Rattle.model.specs.Errors.{Cell}
 use Rattle.store.specs.Marking.{Is}
-use Rattle.reaching.specs.Search.{rowCell}
-use Rattle.reaching.specs.Search.{cellAt}
+use Rattle.reaching.specs.Reaching.{rowCell, cellAt}
 
 pub cell-eq : {c d l : ℕ} → c ≡ d → Cell d l → Cell c l
 cell-eq e (inl h) = inl (e ∙ h)

@@ -5,7 +5,7 @@ use Prim.Native.Nat.{ℕ, _+_, _≤_, _<_}
 use native.Mathlib.Omega.{arith}
 use borrow.Author.Count.{below-more}
 use Rattle.model.specs.Claims.{First}
-use Rattle.reaching.specs.Search.{Least, smallest, nothing, Last, here, nowhere, Picked, already, forced}
+use Rattle.reaching.specs.Reaching.{Least, smallest, nothing, Last, here, nowhere, Picked, already, forced}
 
 -- ---- the smallest number
 

@@ -12,7 +12,7 @@ use Rattle.model.proofs.Unique.{first-same}
 use Rattle.positions.specs.declared.plan.Plan.{Plan}
 use Rattle.positions.specs.Plans.{pair, pAt}
 use Rattle.store.specs.Marking.{Has, Is}
-use Rattle.reaching.specs.Search.{Reached, Choice, Least, smallest, nothing}
+use Rattle.reaching.specs.Reaching.{Reached, Choice, Least, smallest, nothing}
 use Rattle.reaching.proofs.Numbers.{least-first}
 
 -- x is where the P facts of t begin that end at g, l

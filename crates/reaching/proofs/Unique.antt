@@ -9,8 +9,8 @@ use Rattle.model.specs.Errors.{Cell}
 use Rattle.model.proofs.Unique.{first-same}
 use Rattle.positions.specs.declared.plan.Plan.{Plan}
 use Rattle.store.proofs.Unique.{is-unique}
-use Rattle.reaching.specs.Search.{Least, smallest, nothing, Last, here, nowhere, Picked, already, forced}
-use Rattle.reaching.specs.Search.{rowCell, Reached, Aimed, no-failed, picked, unfit, fit}
+use Rattle.reaching.specs.Reaching.{Least, smallest, nothing, Last, here, nowhere, Picked, already, forced}
+use Rattle.reaching.specs.Reaching.{rowCell, Reached, Aimed, no-failed, picked, unfit, fit}
 use Rattle.reaching.proofs.cells.aim.Reads as aim
 use Rattle.reaching.proofs.cells.aim.Kinds as aim-kinds
 use Rattle.reaching.proofs.cells.cell_of.Reads as cell-of

@@ -6,7 +6,7 @@ ghost use lib.ListN.{length};
 ghost use Rattle.files.specs.Table.{mostThreads, mostErrors};
 ghost use Rattle.positions.specs.Plans.{Planned};
 ghost use Rattle.store.specs.Marking.{room};
-ghost use Rattle.reaching.specs.Search.{Reached, Last, Picked, Aimed, cellAt};
+ghost use Rattle.reaching.specs.Reaching.{Reached, Last, Picked, Aimed, cellAt};
 use crate::reach::cell_fits;
 use crate::reach::least;
 use crate::reach::reached;

@@ -1,10 +1,9 @@
 // The local stores that a thread reaches at a shared store.
-ghost use mathlib.Core.Path.{_≡_};
 ghost use Prim.Native.Nat.{_<_, _≤_};
 ghost use Rattle.model.specs.Errors.{Cell};
 ghost use Rattle.positions.specs.Plans.{Planned};
 ghost use Rattle.store.specs.Marking.{room, Is};
-ghost use Rattle.reaching.specs.Search.{Reached, Choice, Least};
+ghost use Rattle.reaching.specs.Reaching.{Reached, Choice, Least};
 use positions::plan::Plan;
 use positions::plan::p_at;
 use positions::plan::pair_of;

@@ -5,11 +5,10 @@ use mathlib.Core.Path.{_≡_, refl, sym, ap, subst, _∙_}
 use mathlib.Core.List.{List, []}
 use Prim.Native.Nat.{ℕ, _<_}
 use native.Mathlib.Omega.{arith}
-use Rattle.numbers.specs.Reading.{Out, got}
+use Rattle.numbers.specs.Reading.{got}
 use Rattle.numbers.proofs.ReadingLaws.{never}
 use Rattle.files.specs.declared.header.Header.{Header}
 use Rattle.files.specs.Table.{Table, room, W}
-use Rattle.files.specs.Header.{headerReadOf}
 use Rattle.files.specs.File.{tableOf, tableAt}
 use Rattle.files.proofs.TableLaws.{table-got}
 use Rattle.model.specs.Rules.{Fact, Derives}
@@ -23,7 +22,6 @@ use Rattle.rules.specs.declared.answer.Answer.the-variants.{Done}
 use Rattle.rules.specs.Checking.{Checked, done}
 use Rattle.rules.specs.Checking as checked
 use Rattle.report.specs.declared.facts.Next.{Next}
-use Rattle.report.specs.Answers.{threadsOf}
 use Rattle.report.specs.Listed.{Listed, NextIn, line, end, MarkedIn, NextOf, read, refused}
 use Rattle.report.proofs.ListedLaws.{got-header}
 
@@ -56,11 +54,6 @@ with-rows h steps pushes pops errors =
     next-to refl (λ p. refl) (λ p l m. record { enough = m .enough; one = m .one }) (λ p l m. record { enough = m .enough; one = m .one })
 
 module _ (s : List ℕ) (T : Table) (n : ℕ) (is : tableAt s ≡ got T n) where
-  pub threads-of-table : threadsOf s ≡ T .n
-  threads-of-table =
-      let g = table-got s T n is in
-      ap (λ (o : Out Header). headerReadOf o .header .sizes .threads) (g .header-was) ∙ ap (λ (x : Table). x .n) (sym (g .is))
-
   pub next-of-table : {mem : List ℕ} {from : ℕ} {before : List ℕ} {r : Next} {after : List ℕ}
       → NextOf s mem from before r after → NextIn T (MarkedIn T mem) from before r after
   next-of-table {mem} {from} {before} {r} {after} (read {h} e k) =

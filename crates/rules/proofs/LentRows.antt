@@ -1,5 +1,5 @@
 -- The rows that the table reader leaves in memory are the table's: what the engine and the verdict ask of their lent rows.
---     rows-same      the rows of a list in memory are the list's
+--     rows-same                      the rows of a list in memory are the list's
 --     stored-rows                    so the lent rows are the table's
 --     stored-begins                  and so are the header's initial stores
 --     stored-errors                  and the error rows
@@ -13,14 +13,14 @@ use lib.ListN.{length, getD}
 use lib.Seq.{sets, length-sets}
 use Rattle.files.specs.declared.header.Header.{Header}
 use Rattle.files.specs.declared.table.Counts.{Counts}
-use Rattle.files.specs.Table.{Table, Sound, Rows, stepCells, pushCells, popCells, errorCells, mostErrors, room, W}
+use Rattle.files.specs.Table.{Table, Rows, stepCells, pushCells, popCells, errorCells, room, W}
 use Rattle.files.specs.Header.{fourOf}
 use Rattle.lists.specs.Lists.{flat}
 use Rattle.files.proofs.TableLaws.{cell-stands}
 use Rattle.positions.specs.declared.plan.Plan.{Plan}
 use Rattle.store.specs.declared.rows.Row.{Row}
 use Rattle.store.specs.declared.rows.RowCounts.{RowCounts}
-use Rattle.store.specs.Reading.{rowOf, stepOf, pushOf, popOf, Nth, Same, Reads}
+use Rattle.store.specs.Reading.{rowOf, stepOf, pushOf, popOf, Same, Reads}
 use Rattle.positions.specs.Plans.{sized, planOf}
 use Rattle.engine.specs.Given.{RowsOf, StartOf}
 use Rattle.verdict.specs.ErrorRows.{ErrorsOf}

@@ -2,7 +2,7 @@
 --     over-here, done-here                           a cleared part; a part that holds the least relations, with the verdict
 --     answer-short, answer-over, answer-done         the answer, by the plan and by what the engine answers
 -- Assumes nothing.
-use mathlib.Core.Path.{_≡_, refl, sym, ap, _∙_}
+use mathlib.Core.Path.{_≡_, sym, ap, _∙_}
 use mathlib.Core.List.{List}
 use Prim.Native.Nat.{ℕ, _≤_, _<_}
 use native.Mathlib.Omega.{arith}

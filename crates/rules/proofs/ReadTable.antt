@@ -5,7 +5,6 @@
 use mathlib.Core.Path.{_≡_, refl, sym, ap, _∙_}
 use mathlib.Core.List.{List}
 use Prim.Native.Nat.{ℕ, _*_, _≤_}
-use native.Mathlib.Omega.{arith}
 use lib.ListN.{length}
 use Rattle.numbers.specs.declared.refusals.Refusal.{Refusal}
 use Rattle.numbers.specs.Reading.{Out, got, bad}
@@ -16,7 +15,7 @@ use Rattle.files.specs.declared.table.TableRead.{TableRead}
 use Rattle.files.specs.Table.{Table, mostSteps, mostPushes, mostPops, mostErrors}
 use Rattle.files.specs.File.{tableAt, tableReadOf, headerIn, countsIn, TableIs}
 use Rattle.files.proofs.TableLaws.{table-sound}
-use Rattle.rules.specs.Lent.{Laid, Stored}
+use Rattle.rules.specs.Lent.{Stored}
 
 -- ---- which outcome
 

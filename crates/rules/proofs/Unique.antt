@@ -3,7 +3,7 @@
 -- Assumes nothing.
 use mathlib.Core.Path.{_≡_, refl, sym, ap, _∙_}
 use mathlib.Core.List.{List}
-use Prim.Native.Nat.{ℕ, _≤_, _<_}
+use Prim.Native.Nat.{ℕ}
 use native.Mathlib.Omega.{arith}
 use lib.ListN.{length, take, drop}
 use contract.Lifetimes.{Lfts}
@@ -22,7 +22,7 @@ use Rattle.store.proofs.Unique.{parts-same}
 use Rattle.engine.proofs.Determined.{exceeds-count}
 use Rattle.verdict.proofs.Answers.{answers-same}
 use Rattle.rules.specs.declared.answer.Answer.{Answer}
-use Rattle.rules.specs.declared.answer.Answer.the-variants.{Done, Refused, Short, Over}
+use Rattle.rules.specs.declared.answer.Answer.the-variants.{Done, Refused}
 use Rattle.rules.proofs.answer.reply_of.Reads as reply-of
 use Rattle.rules.proofs.answer.reply_of.Kinds as reply-of-kinds
 use Rattle.rules.proofs.answer.plain_reply.Reads as plain-reply

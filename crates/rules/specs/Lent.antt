@@ -6,8 +6,7 @@ use lib.ListN.{length}
 use lib.Seq.{sets}
 use Rattle.files.specs.declared.header.Header.{Header}
 use Rattle.files.specs.declared.table.Counts.{Counts}
-use Rattle.files.specs.Table.{Table, Sound, stepCells, pushCells, popCells, errorCells}
-use Rattle.files.specs.Table.{mostSteps, mostPushes, mostPops, mostErrors}
+use Rattle.files.specs.Table.{Table, Sound, stepCells, pushCells, popCells, errorCells, mostSteps, mostPushes, mostPops, mostErrors}
 use Rattle.files.specs.File.{headerIn, countsIn, rowBytes}
 
 -- bytes stand at the start of a memory that has room for as many rows as its list may have

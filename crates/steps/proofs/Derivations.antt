@@ -25,7 +25,6 @@ use denote.Struct.Laws.{Laws, Copyables}
 use denote.Struct.Struct.{Plains}
 use borrow.Table.Copies.{halved}
 use borrow.Table.Elements.{at}
-use borrow.Table.OneValue.{One}
 use borrow.Table.Own.{told-none}
 use borrow.Table.Owned.{ShrSlice}
 use borrow.Table.Row.{tyS, getLife, alive, Fresh, IsTok, setLife, Entry, lft}

@@ -1,4 +1,5 @@
-// Rule 4 on the P facts of a thread t from a pair a. One walker goes over a list of step rows.
+// Rule 4 on the P facts of a thread t from a pair a. One walker goes over a list of step rows. It is an inner layer: its
+// functions have `requires`.
 ghost use Prim.Native.Nat.{_<_, _≤_};
 ghost use lib.ListN.{length};
 ghost use Rattle.store.specs.Marking.{room};

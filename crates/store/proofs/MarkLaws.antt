@@ -8,9 +8,8 @@ use Prim.Native.Nat.{ℕ, zero, suc, _+_, _<_, _≤_}
 use native.Mathlib.Decide.{ℕ-discrete}
 use native.Mathlib.Omega.{arith}
 use lib.Dec.{eqb}
-use borrow.Author.Count.{below-more}
 use borrow.Author.Tests.{eqb-true, eqb-false}
-use lib.ListN.{getD, set, length, drop, replicate, length-set, length-replicate, getD-replicate}
+use lib.ListN.{length, drop, replicate, length-set, length-replicate, getD-replicate}
 use lib.Seq.{getD-set-same, getD-set-other, ext-getD, take-at, take-all, drop-at}
 use Rattle.files.specs.Table.{Table}
 use Rattle.model.specs.Rules.{Fact}

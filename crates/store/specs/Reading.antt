@@ -19,10 +19,11 @@ rowOf rows i =
       v = getD rows (i * 5 + 4) 0;
     }
 
--- row k of a list of rows; past its end, a row of zeros
+-- a row of zeros
 abbrev pub zeroRow : Row
 zeroRow = record { t = 0; g = 0; l = 0; u = 0; v = 0 }
 
+-- row k of a list of rows; past its end, a row of zeros
 abbrev pub nth : List Row → ℕ → Row
 nth rows k = getD rows k zeroRow
 

@@ -1,3 +1,3 @@
-// What the engine and the verdict stand on: how the mark of a fact stands in the lent memory, and the rows of a table.
+// What the layers above stand on: how the mark of a fact stands in the lent memory, and the rows of a table.
 pub mod marks;
 pub mod rows;

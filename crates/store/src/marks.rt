@@ -1,4 +1,4 @@
-// The store: the only place that knows how a fact stands in memory. One byte a fact, 1 if it is marked.
+// The store: the only place that knows how a mark stands in memory. One byte a fact, 1 if it is marked.
 ghost use mathlib.Core.Path.{_≡_};
 ghost use Prim.Native.Nat.{_+_, _<_, _≤_};
 ghost use lib.ListN.{length, replicate};

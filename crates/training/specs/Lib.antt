@@ -1,2 +1,3 @@
--- The training table of document 01, by its rule.
+-- The two tables of Simple in document 01, by their rule:
+--   Training  the training table and the table with the true/false mutex
 pub mod Training

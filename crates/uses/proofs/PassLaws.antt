@@ -23,7 +23,7 @@ module _ {U : Uses} {m : List ℕ} where
   grew-has none p h = h
   grew-has (more y g l u) p h = has-kept _ y p l (grew-has g p h)
 
-  pub grew-room : {k : ℕ} {m′ : List ℕ} → Grew U m k m′ → room m′ ≡ room m
+  grew-room : {k : ℕ} {m′ : List ℕ} → Grew U m k m′ → room m′ ≡ room m
   grew-room none = refl
   grew-room (more {m′} y g l u) = put-room m′ y ∙ grew-room g
 
@@ -71,7 +71,7 @@ module _ {A B : Uses} (to : (q x y : ℕ) → A q x y → B q x y) where
   first-to (inr l) = inr (lacks-to l)
 
   -- a pass that ends with none left is a pass over more uses
-  pub swept-spent : {put : Bool} {b r : Pass} {m m′ : List ℕ} → r .left ≡ 0 → Swept A put b r m m′ → Swept B put b r m m′
+  swept-spent : {put : Bool} {b r : Pass} {m m′ : List ℕ} → r .left ≡ 0 → Swept A put b r m m′ → Swept B put b r m m′
   swept-spent e (looks k) =
       looks (record { left = k .left; least = λ h. absurd (omega (arith, k .left)); first = first-to (k .first); le = k .le })
   swept-spent e (puts p done) = puts (puts-to p) (λ h. absurd (omega arith))
@@ -197,7 +197,7 @@ swept-never put n = swept-idle put (λ y l. n (l .given .0))
 abbrev pub Flat : Uses → Type 0
 Flat U = (q x y : ℕ) → U q x y → U x x y
 
-pub flat-upto : {A : ℕ → Uses} {n : ℕ} → ((i : ℕ) → Flat (A i)) → Flat (Upto A n)
+flat-upto : {A : ℕ → Uses} {n : ℕ} → ((i : ℕ) → Flat (A i)) → Flat (Upto A n)
 flat-upto f q x y u = record { k = u .k; lt = u .lt; given = f _ _ _ _ (u .given) }
 
 flat-single : (x y : ℕ) → Flat (Single x y)

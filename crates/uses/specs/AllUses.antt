@@ -33,8 +33,10 @@ PRow s n steps pushes i = PUses s n steps pushes (i / s .k) (i % s .k)
 abbrev pub QRow : Plan → RowCounts → List ℕ → ℕ → Uses
 QRow s n pops i = QUses s n pops (i / s .k) (i % s .k)
 
+-- on every row of Q facts
 abbrev pub QRows : Plan → RowCounts → List ℕ → Uses
 QRows s n pops = Upto (QRow s n pops) (s .n * s .k)
 
+-- every use
 abbrev pub AllUses : Plan → RowCounts → List ℕ → List ℕ → List ℕ → Uses
 AllUses s n steps pushes pops = Either (Upto (PRow s n steps pushes) (s .n * s .k)) (QRows s n pops)

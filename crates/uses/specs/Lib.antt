@@ -1,4 +1,4 @@
--- What the contracts cite:
+-- What the contracts here, in passes, steps and engine cite, all of functions that have `requires`:
 --   Uses      sets of uses of rules at positions
 --   Passing   what a pass over such a set does
 --   Ranges    rows in range

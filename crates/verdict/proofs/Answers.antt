@@ -78,9 +78,6 @@ module _ {T : Table} where
     pub safe-none : Answers T S Safe → model.Safe T S
     safe-none a = elim (a .verdict) [ safe s ↦ s ]
 
-    pub safe-no-row : Answers T S Safe → (row : ℕ) → ¬ AllowsRow T S row
-    safe-no-row a row r = safe-none a (r .witness) (r .allows)
-
 -- ---- the contract as the prover reads it from the source
 
 pub judge-fixes : (κs : Lfts 2) (a : Dens κs judge-kinds.ps) (x x′ : Verdict) (s s′ : AtExit (endedOf 2 judge-kinds.ps judge-kinds.r) κs)

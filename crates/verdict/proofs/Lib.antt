@@ -1,10 +1,10 @@
--- The laws of the crate. Callers cite Answers: the only answer, the verdict on the facts that a memory holds, and the smallest row. The others
--- are what the functions' proofs cite:
+-- The laws of the crate. Callers cite Answers; the others are what the functions' proofs cite:
 --   Lists     the order of lists, and what stands at a number of a list
 --   Smallest  each thread's smallest store for its cell makes the smallest list
 --   OfTable   what is said of the lent bytes is said of the table
 --   OneRow    what a row allows at a shared store
 --   Progress  how the search goes on from row to row, from store to store, from thread to thread
+--   Answers   the only answer, the verdict on the facts that a memory holds, and the smallest row
 pub mod Lists
 pub mod Smallest
 pub mod OfTable

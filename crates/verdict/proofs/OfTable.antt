@@ -19,7 +19,7 @@ use Rattle.store.proofs.MarkLaws.{marked-has, has-marked}
 use Rattle.positions.proofs.PlanIsModel.{planned, pos-p, pos-p-to, pair-fits}
 use Rattle.model.proofs.Lists.{some-lt}
 use Rattle.verdict.specs.ErrorRows.{ErrorsOf}
-use Rattle.reaching.specs.Search.{rowCell, Reached}
+use Rattle.reaching.specs.Reaching.{rowCell, Reached}
 use Rattle.verdict.proofs.Lists.{some-getD, getD-some}
 use Rattle.reaching.proofs.CellLaws.{cell-eq}
 

@@ -15,7 +15,7 @@ use Rattle.model.specs.Memory.{Marked}
 use Rattle.model.specs.Claims.{First}
 use Rattle.positions.specs.declared.plan.Plan.{Plan}
 use Rattle.verdict.specs.ErrorRows.{ErrorsOf}
-use Rattle.reaching.specs.Search.{
+use Rattle.reaching.specs.Reaching.{
   Reached,
   Choice,
   here,

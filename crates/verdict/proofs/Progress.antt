@@ -19,7 +19,7 @@ use Rattle.positions.specs.declared.plan.Plan.{Plan}
 use Rattle.verdict.specs.declared.search.Verdict.the-variants.{Safe, Possible}
 use Rattle.files.proofs.TableLaws.{four-numbers}
 use Rattle.verdict.specs.ErrorRows.{ErrorsOf, Judged}
-use Rattle.reaching.specs.Search.{Reached, Choice, Least, cellAt}
+use Rattle.reaching.specs.Reaching.{Reached, Choice, Least, cellAt}
 use Rattle.verdict.proofs.Lists.{≼-cons}
 use Rattle.reaching.proofs.Numbers.{least-first, least-none}
 use Rattle.verdict.proofs.OfTable.{threads, row-le, allows-reached}

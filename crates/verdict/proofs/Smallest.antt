@@ -13,7 +13,7 @@ use native.Mathlib.Omega.{arith}
 use lib.ListN.{length, getD}
 use Rattle.model.specs.Verdict.{_≼_}
 use Rattle.model.specs.Claims.{First}
-use Rattle.reaching.specs.Search.{Choice, here, nowhere, Picked, already, forced}
+use Rattle.reaching.specs.Reaching.{Choice, here, nowhere, Picked, already, forced}
 use Rattle.verdict.proofs.Lists.{Agree, ≼-where-agree}
 use Rattle.reaching.proofs.Numbers.{first-le}
 use Rattle.reaching.proofs.CellLaws.{cell-one}

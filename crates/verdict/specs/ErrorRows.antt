@@ -8,7 +8,7 @@ use Rattle.files.specs.Table.{Table, Sound, Error, errorCells}
 use Rattle.model.specs.Memory.{Marked}
 use Rattle.positions.specs.declared.plan.Plan.{Plan}
 use Rattle.positions.specs.Plans.{planOf}
-use Rattle.reaching.specs.Search.{rowCell}
+use Rattle.reaching.specs.Reaching.{rowCell}
 use Rattle.verdict.specs.declared.search.Verdict.{Verdict}
 use Rattle.verdict.specs.Judged.{Answers}
 

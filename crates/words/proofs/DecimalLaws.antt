@@ -50,7 +50,7 @@ module _ (v : ℕ) where
   length-more h = rw (decimal-more v h, length-append) (omega arith)
 
 -- a number below 10 ^ k has at most k digits, and 0 has one
-pub decimal-length : (k v : ℕ) → v < 10 ^ suc k → length (decimal v) ≤ suc k
+decimal-length : (k v : ℕ) → v < 10 ^ suc k → length (decimal v) ≤ suc k
 decimal-length zero v h = omega (arith, length-one v h)
 decimal-length (suc k) v h = go (decLt v 10) (decimal-length k (v / 10))
   where

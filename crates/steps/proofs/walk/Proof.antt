@@ -2,7 +2,7 @@
 -- Assumes nothing.
 use Prim.Native.Nat.{ℕ, _≤_, _<_, _-_, _+_, _*_}
 use mathlib.Core.Bool.{Bool}
-use mathlib.Core.Path.{_≡_, refl, ap, sym, _∙_}
+use mathlib.Core.Path.{_≡_, refl}
 use mathlib.Core.List.{List, [], _∷_}
 use native.Mathlib.Omega.{arith}
 use lib.ListN.{length, replicate}
@@ -27,13 +27,13 @@ use Rattle.steps.proofs.walk.Key as key
 use Rattle.steps.proofs.walk.Statement.{statement}
 use Rattle.steps.proofs.Derivations.{URA, Lfts, Shares, tablesOf, givenOf, Ty, tyInt, tyBool, tyRef, tyPtr, RattleType, w8, w64, named, imm}
 use Rattle.steps.proofs.Derivations.{mut, unsigned, lt, mul, add, offset, field, valueLocal, Heap, Tables, WpFn, Atoms, Given, Room, Fits}
-use Rattle.steps.proofs.Derivations.{Triple, ltb-true, ltb-false, at-mul, ptrVal, Cx, Life, sBool, sPtr, lease, dead, getRow, get, set, sc-here}
-use Rattle.steps.proofs.Derivations.{sslice, whole, Mo, oAt, oFld, oInt, After, mslice, msleft, setVals, asMut, msptr, mslice-owed}
-use Rattle.steps.proofs.Derivations.{reads-owed-len, bySize, lenV, reads-sslice-len, reads-sslice-ptr, vAt, bAt, fix-len, plainOf, Callee, Over}
+use Rattle.steps.proofs.Derivations.{Triple, ltb-true, ltb-false, at-mul, ptrVal, Cx, Life, sBool, sPtr, lease, dead, getRow, get, set}
+use Rattle.steps.proofs.Derivations.{sc-here, sslice, whole, Mo, oAt, oFld, oInt, After, mslice, msleft, setVals, asMut, msptr, mslice-owed}
+use Rattle.steps.proofs.Derivations.{reads-owed-len, bySize, lenV, reads-sslice-len, reads-sslice-ptr, vAt, bAt, fix-len, plainOf, Callee}
 use Rattle.steps.proofs.Derivations.{World, u64, n64, v64, bytes, lent, rowOf, tyOf, it, _&_, dAt, mAt, At, gone, over, over-data, like, read}
 use Rattle.steps.proofs.Derivations.{mut-arg, copied, _⨾_, _▸_, after, falls, skips, leaves, returns, blocks, loops, branches, sets, computes}
 use Rattle.steps.proofs.Derivations.{frees, begins, ends, forgets, lends, packs, returned, calls, reads-element, copies, Function, entry}
-use Rattle.steps.proofs.Derivations.{inside, Derived, Left, meets, sliceTy}
+use Rattle.steps.proofs.Derivations.{Over, inside, Derived, Left, meets, sliceTy}
 
 abbrev rows-ref : Ty
 rows-ref = tyRef (named 0) imm row-named

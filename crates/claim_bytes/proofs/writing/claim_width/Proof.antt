@@ -1,4 +1,4 @@
--- `claim_files::writing::claim_width` meets its contract: the widths of the version and the count, and that of the positions.
+-- `claim_bytes::writing::claim_width` meets its contract: the widths of the version and the count, and that of the positions.
 -- Assumes nothing.
 use borrow.Author.Needs.{needs}
 use native.Mathlib.Omega.{arith}

@@ -1,4 +1,4 @@
--- `claim_files::writing::put` meets its contract: where a number has room, it is written.
+-- `claim_bytes::writing::put` meets its contract: where a number has room, it is written.
 -- Assumes nothing.
 use borrow.Author.Needs.{needs}
 use native.Mathlib.Omega.{arith}

@@ -1,4 +1,4 @@
--- `claim_files::writing::put_claim` meets its contract: the version, the count and the positions are put one after the other. The room for the
+-- `claim_bytes::writing::put_claim` meets its contract: the version, the count and the positions are put one after the other. The room for the
 -- claim is the room for each.
 -- Assumes nothing.
 use borrow.Author.Needs.{needs}

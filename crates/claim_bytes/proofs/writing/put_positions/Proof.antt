@@ -1,4 +1,4 @@
--- `claim_files::writing::put_positions` meets its contract. The loop's invariant: writing the positions that are to come writes all.
+-- `claim_bytes::writing::put_positions` meets its contract. The loop's invariant: writing the positions that are to come writes all.
 -- Assumes nothing.
 use borrow.Author.Needs.{needs}
 use Prim.Native.Nat.{_-_}

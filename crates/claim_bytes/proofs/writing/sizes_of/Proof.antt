@@ -1,4 +1,4 @@
--- `claim_files::writing::sizes_of` meets its contract. The loop's invariant: with the positions that are to come, the sizes are those of all.
+-- `claim_bytes::writing::sizes_of` meets its contract. The loop's invariant: with the positions that are to come, the sizes are those of all.
 -- Assumes nothing.
 use borrow.Author.Needs.{needs}
 use Prim.Native.Nat.{_-_}

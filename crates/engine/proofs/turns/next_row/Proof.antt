@@ -1,11 +1,9 @@
 -- No row from i up to this one has a mark.
 -- Assumes nothing.
-use mathlib.Core.Path.{_≡_, refl, subst}
-use Prim.Native.Nat.{ℕ, _+_, _*_, _-_, _<_, _≤_}
-use native.Mathlib.Decide.{decLt}
+use mathlib.Core.Path.{subst}
+use Prim.Native.Nat.{_*_, _-_, _<_, _≤_}
 use native.Mathlib.Omega.{arith}
 use borrow.Author.Needs.{needs}
-use Rattle.store.specs.Marking.{SomeIn}
 use Rattle.store.proofs.MarkLaws.{is-true, is-false}
 use Rattle.positions.proofs.Places.{parts}
 use Rattle.engine.specs.Turns.{NoneBetween}

@@ -1,5 +1,5 @@
 -- The work, derived by hand: it owns the list of step rows, and lends the first n of them to rule 4's walker in each turn. At the head of a turn
--- `Turning` holds, which the helpers' contracts hand on; after the last turn it is what the work comes to.
+-- `Turning` holds, which the contracts of the functions that it calls hand on; after the last turn it is what the work comes to.
 -- Assumes nothing.
 use Prim.Native.Nat.{ℕ, _≤_, _<_, _/_, _%_}
 use mathlib.Core.Bool.{Bool, true, false}
@@ -23,7 +23,7 @@ use Rattle.engine.specs.declared.turns.Turn.{Turn}
 use Rattle.engine.specs.InRange.{Given as Ready}
 use Rattle.uses.specs.AllUses.{AllUses}
 use Rattle.engine.specs.Working.{Worked}
-use Rattle.engine.specs.Turns.{rowsOf, turnsLeft, Turning, Stepped, Goes}
+use Rattle.engine.specs.Turns.{rowsOf, turnsLeft, Turning, Stepped}
 use Rattle.uses.proofs.PassLaws.{swept-room, swept-of}
 use Rattle.steps.proofs.ListLaws.{taken-length, taken-in, taken-swept}
 use Rattle.engine.proofs.Covering.{covered-room}

@@ -13,8 +13,7 @@ use Rattle.model.specs.Memory.{Marked}
 use Rattle.model.specs.Claims.{Finds}
 use Rattle.positions.specs.Plans.{planOf}
 use Rattle.rules.specs.Lent.{Stored}
-use Rattle.rules.proofs.LentRows.{stored-rows, stored-begins, stored-errors}
-use Rattle.rules.proofs.LentRows.{stored-plan, stored-sizes, stored-errors-long}
+use Rattle.rules.proofs.LentRows.{stored-rows, stored-begins, stored-errors, stored-plan, stored-sizes, stored-errors-long}
 use Rattle.rules.proofs.Outcomes.{w-by}
 use Rattle.findings.specs.Found.{Started, findingOf}
 use Rattle.findings.proofs.FoundLaws.{start-lacks, starts-marked, position-misses, closed-marked}

@@ -2,7 +2,7 @@
 -- Assumes nothing.
 use lib.ListN.{length-set}
 use native.Mathlib.Omega.{arith}
-use Rattle.cells.proofs.RowMemory.{five-stored}
+use Rattle.lists.proofs.RowMemory.{five-stored}
 use borrow.Author.Needs.{needs}
 use Rattle.lists.proofs.list.store.Statement.{statement}
 use Rattle.lists.proofs.list.store.Tie as tie

@@ -3,7 +3,7 @@
 use Prim.Native.Nat.{_-_}
 use native.Mathlib.Omega.{arith}
 use lib.ListN.{length}
-use Rattle.cells.proofs.RowMemory.{Wiped, wipe-start, wipe-more, wipe-end}
+use Rattle.lists.proofs.RowMemory.{Wiped, wipe-start, wipe-more, wipe-end}
 use Rattle.lists.proofs.list.wipe.Statement.{statement}
 use Rattle.lists.proofs.list.wipe.Tie as tie
 

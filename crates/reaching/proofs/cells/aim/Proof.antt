@@ -5,8 +5,7 @@ use Prim.Native.Nat.{_-_}
 use native.Mathlib.Omega.{arith}
 use borrow.Author.Needs.{needs}
 use Rattle.store.proofs.MarkLaws.{is-true, is-false}
-use Rattle.reaching.specs.Search.{rowCell}
-use Rattle.reaching.specs.Search.{no-failed, picked, unfit, fit}
+use Rattle.reaching.specs.Reaching.{rowCell, no-failed, picked, unfit, fit}
 use Rattle.reaching.proofs.CellLaws.{cell-eq, shared-cell}
 use Rattle.reaching.proofs.cells.aim.Statement.{statement}
 use Rattle.reaching.proofs.cells.aim.Tie as tie

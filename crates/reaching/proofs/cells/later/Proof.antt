@@ -3,7 +3,7 @@
 use native.Mathlib.Omega.{arith}
 use borrow.Author.Needs.{needs}
 use Rattle.store.proofs.MarkLaws.{is-true, is-false}
-use Rattle.reaching.specs.Search.{here}
+use Rattle.reaching.specs.Reaching.{here}
 use Rattle.reaching.proofs.Numbers.{last-stays}
 use Rattle.reaching.proofs.cells.later.Statement.{statement}
 use Rattle.reaching.proofs.cells.later.Tie as tie

@@ -7,7 +7,7 @@ use Prim.Native.Nat.{ℕ, _-_, _≤_, _<_}
 use native.Mathlib.Omega.{arith}
 use borrow.Author.Needs.{needs}
 use Rattle.model.specs.Claims.{First}
-use Rattle.reaching.specs.Search.{Reached, Last, nowhere, already, forced}
+use Rattle.reaching.specs.Reaching.{Reached, Last, nowhere, already, forced}
 use Rattle.reaching.proofs.Numbers.{none-more, last-not}
 use Rattle.reaching.proofs.Reaching.{any-is-first, any-not-first}
 use Rattle.reaching.proofs.cells.pick.Statement.{statement}

@@ -3,7 +3,7 @@
 use borrow.Author.Needs.{needs}
 use borrow.Author.Tests.{not-true, not-false}
 use Rattle.store.proofs.MarkLaws.{is-true, is-false}
-use Rattle.reaching.specs.Search.{Reached}
+use Rattle.reaching.specs.Reaching.{Reached}
 use Rattle.reaching.proofs.Reaching.{choice-test}
 use Rattle.reaching.proofs.reach.choice.Statement.{statement}
 use Rattle.reaching.proofs.reach.choice.Tie as tie

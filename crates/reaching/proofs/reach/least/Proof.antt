@@ -5,7 +5,7 @@ use Prim.Native.Nat.{ℕ, _-_, _≤_, _<_}
 use native.Mathlib.Omega.{arith}
 use borrow.Author.Needs.{needs}
 use Rattle.store.proofs.MarkLaws.{is-true, is-false}
-use Rattle.reaching.specs.Search.{Reached, Choice, smallest, nothing}
+use Rattle.reaching.specs.Reaching.{Reached, Choice, smallest, nothing}
 use Rattle.reaching.proofs.Numbers.{none-more}
 use Rattle.reaching.proofs.reach.least.Statement.{statement}
 use Rattle.reaching.proofs.reach.least.Tie as tie

@@ -1,10 +1,9 @@
 -- `rules::check::check` meets its contract: the reader refuses, or the table that it stored is checked.
 -- Assumes nothing.
-use mathlib.Core.Path.{_≡_, _∙_}
 use native.Mathlib.Omega.{arith}
 use borrow.Author.Needs.{needs}
 use denote.Ref.{now}
-use Rattle.rules.specs.Checking.{Checked, refused, read}
+use Rattle.rules.specs.Checking.{refused, read}
 use Rattle.rules.proofs.ReadTable.{ReadAs, read-stored, read-refused}
 use Rattle.rules.proofs.check.check.Statement.{statement}
 use Rattle.rules.proofs.check.check.Tie as tie

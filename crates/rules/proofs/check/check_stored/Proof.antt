@@ -9,8 +9,7 @@ use lib.ListN.{length}
 use Rattle.files.specs.Table.{Table}
 use Rattle.positions.specs.Plans.{planOf}
 use Rattle.rules.specs.Lent.{Stored}
-use Rattle.rules.proofs.LentRows.{stored-rows, stored-begins, stored-errors}
-use Rattle.rules.proofs.LentRows.{stored-room, stored-plan, stored-sizes, stored-errors-long}
+use Rattle.rules.proofs.LentRows.{stored-rows, stored-begins, stored-errors, stored-room, stored-plan, stored-sizes, stored-errors-long}
 use Rattle.rules.proofs.Outcomes.{w-by, answer-short, answer-over, answer-done}
 use Rattle.rules.proofs.check.check_stored.Statement.{statement}
 use Rattle.rules.proofs.check.check_stored.Tie as tie
