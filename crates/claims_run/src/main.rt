@@ -130,6 +130,7 @@ fn check(table: &[u8], w: usize, claim: &[u8], bytes: usize) {
     tell_memory(&mem, w);
 }
 
+// A byte as a number of bytes.
 fn wide(byte: u8) -> usize {
     byte as usize
 }

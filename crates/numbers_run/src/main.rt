@@ -43,6 +43,7 @@ fn read(src: &[u8], at: usize) {
     io::write_all(STDOUT_FILENO, b"\n");
 }
 
+// A byte as a number of bytes.
 fn wide(byte: u8) -> usize {
     byte as usize
 }
