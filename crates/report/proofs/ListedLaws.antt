@@ -27,9 +27,9 @@ use Rattle.store.specs.Marking.{Has, MarkFrom, NextMark}
 use Rattle.positions.proofs.PlanIsModel.{w-is}
 use Rattle.store.proofs.NextLaws.{next-found, next-end}
 use Rattle.words.specs.Text.{Counts, Written}
-use Rattle.text.specs.Listing.{factLine}
-use Rattle.text.specs.Facts.{planFact}
-use Rattle.text.proofs.FactLaws.{fact-of-table}
+use Rattle.fact_text.specs.FactLines.{factLine}
+use Rattle.fact_text.specs.Facts.{planFact}
+use Rattle.fact_text.proofs.FactLaws.{fact-of-table}
 use Rattle.report.specs.declared.facts.Next.{Next}
 use Rattle.report.specs.declared.facts.Next.the-variants.{Line, End}
 use Rattle.report.specs.Listed.{Listed, NextIn, line, end, MarkedIn, NextOf, read, refused}

@@ -16,7 +16,7 @@ use Rattle.model.specs.Positions.{baseP, baseQ, atG, atP, atQ, factAt}
 use Rattle.model.specs.Memory.{Holds}
 use Rattle.model.proofs.Memory.{says-one, says-yes}
 use Rattle.words.specs.Text.{Written}
-use Rattle.text.specs.Listing.{factLine}
+use Rattle.fact_text.specs.FactLines.{factLine}
 use Rattle.verdict.specs.declared.search.Verdict.{Verdict}
 use Rattle.rules.specs.declared.answer.Answer.the-variants.{Done}
 use Rattle.rules.specs.Checking.{Checked, done}

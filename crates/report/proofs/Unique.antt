@@ -14,7 +14,7 @@ use Rattle.model.proofs.Unique.{first-same}
 use Rattle.files.specs.Table.{Table}
 use Rattle.model.specs.Positions.{factAt}
 use Rattle.words.specs.Text.{Written}
-use Rattle.text.specs.Listing.{factLine}
+use Rattle.fact_text.specs.FactLines.{factLine}
 use Rattle.words.proofs.Unique.{written-unique}
 use Rattle.report.specs.declared.facts.Next.{Next}
 use Rattle.report.specs.declared.facts.Next.the-variants.{Line}

@@ -13,7 +13,7 @@ use Rattle.model.specs.Positions.{factAt}
 use Rattle.model.specs.Memory.{mark}
 use Rattle.model.specs.Claims.{First}
 use Rattle.words.specs.Text.{Written}
-use Rattle.text.specs.Listing.{factLine}
+use Rattle.fact_text.specs.FactLines.{factLine}
 use Rattle.report.specs.declared.facts.Next.{Next}
 use Rattle.report.specs.declared.facts.Next.the-variants.{Line, End}
 

@@ -3,13 +3,13 @@ ghost use mathlib.Core.Path.{_≡_};
 ghost use Rattle.files.specs.Table.{Table};
 ghost use Rattle.positions.specs.Plans.{Planned, planOf};
 ghost use Rattle.report.specs.Listed.{NextIn, MarkedIn, NextOf};
+use fact_text::line::fact_line;
 use files::header::read_header;
 use positions::plan::Plan;
 use positions::plan::plan_by;
 use reader::ends::End;
 use store::marks::next_mark;
 use text::lines::ROOM;
-use text::lines::fact_line;
 
 // The line of a fact with its length, and the position past the fact; or the end of the list.
 pub enum Next {

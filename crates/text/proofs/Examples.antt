@@ -2,21 +2,8 @@
 -- Assumes nothing.
 use mathlib.Core.Path.{_≡_, refl}
 use mathlib.Core.List.{[], _∷_, _++_}
-use Rattle.model.specs.Rules.{G, P, Q}
 use Rattle.words.specs.Text.{bytes, digits, decimal, fields, line}
-use Rattle.text.specs.Listing.{factsLine, safeLine, possibleLine, refusedLine, factLine, bytesLine, acceptedLine, claimRefusedLine}
-
--- the recursion table
-recursion : factsLine 5
-    ++ safeLine
-    ++ factLine (G 0 0 1)
-    ++ factLine (P 0 0 0 0 0)
-    ++ factLine (P 0 0 0 1 1)
-    ++ factLine (Q 0 0 0 0 0 0)
-    ++ factLine (Q 0 0 0 0 1 1)
-    ≡ bytes "facts 5\nverdict safe\nG 0 0 1\nP 0 0 0 0 0\nP 0 0 0 1 1\nQ 0 0 0 0 0 0\nQ 0 0 0 0 1 1\n"
-unfolding digits decimal fields line
-recursion = refl
+use Rattle.text.specs.Listing.{factsLine, possibleLine, refusedLine, bytesLine, acceptedLine, claimRefusedLine}
 
 -- the true/false mutex, and empty input
 mutex : possibleLine 0 0 (0 ∷ 6 ∷ []) ≡ bytes "verdict possible 0 0 0 6\n"

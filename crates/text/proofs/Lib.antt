@@ -1,9 +1,7 @@
 -- The laws of the lines:
---   LineLaws     the numbers of the line of a fact, and of a witness
---   FactLaws     the fact at a position by a plan is model's
+--   LineLaws     the numbers of a witness
 --   Unique       the answers and every byte of the buffers are determined
 --   Examples     the document's own lines
 pub mod LineLaws
-pub mod FactLaws
 pub mod Unique
 mod Examples

@@ -1,14 +1,8 @@
 -- Two results that a contract allows are equal, the answer and every byte of the lent buffer: for each public function, of its contract as
 -- the prover reads it from the source (`Post`). Both results are the same text at the start of the same buffer.
 -- Assumes nothing.
-use mathlib.Core.Path.{_≡_, sym, _∙_}
-use contract.Lifetimes.{Lfts}
 use denote.Ref.{now}
-use denote.Triple.Clauses.{AtExit}
-use borrow.Fn.Kinds.{Dens, resT, endedOf}
 use Rattle.words.proofs.Unique.{Fixes, written-unique}
-use Rattle.text.proofs.facts.fact_at.Reads as fact-at
-use Rattle.text.proofs.facts.fact_at.Kinds as fact-at-kinds
 use Rattle.text.proofs.lines.facts_line.Reads as facts-line
 use Rattle.text.proofs.lines.facts_line.Kinds as facts-line-kinds
 use Rattle.text.proofs.lines.safe_line.Reads as safe-line
@@ -17,16 +11,12 @@ use Rattle.text.proofs.lines.possible_line.Reads as possible-line
 use Rattle.text.proofs.lines.possible_line.Kinds as possible-line-kinds
 use Rattle.text.proofs.lines.refused_line.Reads as refused-line
 use Rattle.text.proofs.lines.refused_line.Kinds as refused-line-kinds
-use Rattle.text.proofs.lines.fact_line.Reads as fact-line
-use Rattle.text.proofs.lines.fact_line.Kinds as fact-line-kinds
 use Rattle.text.proofs.lines.bytes_line.Reads as bytes-line
 use Rattle.text.proofs.lines.bytes_line.Kinds as bytes-line-kinds
 use Rattle.text.proofs.lines.accepted_line.Reads as accepted-line
 use Rattle.text.proofs.lines.accepted_line.Kinds as accepted-line-kinds
 use Rattle.text.proofs.lines.claim_refused_line.Reads as claim-refused-line
 use Rattle.text.proofs.lines.claim_refused_line.Kinds as claim-refused-line-kinds
-
--- ---- the lines
 
 pub facts-line-fixes : Fixes facts-line-kinds.ps facts-line-kinds.r facts-line.Post (λ κs s. now (s .1 .0))
 facts-line-fixes κs a x x′ s s′ = written-unique
@@ -40,9 +30,6 @@ possible-line-fixes κs a x x′ s s′ = written-unique
 pub refused-line-fixes : Fixes refused-line-kinds.ps refused-line-kinds.r refused-line.Post (λ κs s. now (s .1 .1 .0))
 refused-line-fixes κs a x x′ s s′ = written-unique
 
-pub fact-line-fixes : Fixes fact-line-kinds.ps fact-line-kinds.r fact-line.Post (λ κs s. now (s .1 .1 .0))
-fact-line-fixes κs a x x′ s s′ = written-unique
-
 pub bytes-line-fixes : Fixes bytes-line-kinds.ps bytes-line-kinds.r bytes-line.Post (λ κs s. now (s .1 .0))
 bytes-line-fixes κs a x x′ s s′ = written-unique
 
@@ -51,9 +38,3 @@ accepted-line-fixes κs a x x′ s s′ = written-unique
 
 pub claim-refused-line-fixes : Fixes claim-refused-line-kinds.ps claim-refused-line-kinds.r claim-refused-line.Post (λ κs s. now (s .1 .1 .1 .0))
 claim-refused-line-fixes κs a x x′ s s′ = written-unique
-
--- ---- the fact at a position
-
-pub fact-at-fixes : (κs : Lfts 0) (a : Dens κs fact-at-kinds.ps) (x x′ : resT fact-at-kinds.r κs .Denot)
-    (s s′ : AtExit (endedOf 0 fact-at-kinds.ps fact-at-kinds.r) κs) → fact-at.Post κs a x s → fact-at.Post κs a x′ s′ → x ≡ x′
-fact-at-fixes κs a x x′ s s′ p q = p ∙ sym q

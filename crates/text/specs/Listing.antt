@@ -1,7 +1,6 @@
--- The lines of the listing, to the letter (document 01, "Reference tables and results"), and those of the programs on claims.
+-- The lines of the listing but for those of facts, to the letter (document 01, "Reference tables and results"), and those of the programs on claims.
 use mathlib.Core.List.{List, [], _∷_}
 use Prim.Native.Nat.{ℕ}
-use Rattle.model.specs.Rules.{Fact, G, P, Q}
 use Rattle.words.specs.Text.{bytes, line}
 
 -- "facts 5"
@@ -18,12 +17,6 @@ possibleLine row g locals = line (bytes "verdict possible") (row ∷ g ∷ local
 -- "with number and value", as "refused 1 0"
 abbrev pub refusedLine : ℕ → ℕ → List ℕ
 refusedLine number value = line (bytes "refused") (number ∷ value ∷ [])
-
--- "fields in the order of the facts", as "G 0 0 1"
-abbrev pub factLine : Fact → List ℕ
-factLine (G t g g′) = line (bytes "G") (t ∷ g ∷ g′ ∷ [])
-factLine (P t g l g′ l′) = line (bytes "P") (t ∷ g ∷ l ∷ g′ ∷ l′ ∷ [])
-factLine (Q t g l f g′ l′) = line (bytes "Q") (t ∷ g ∷ l ∷ f ∷ g′ ∷ l′ ∷ [])
 
 -- ---- the lines of the programs on claims
 

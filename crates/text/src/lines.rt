@@ -1,15 +1,10 @@
 // The lines of the listing, and those of the programs on claims.
-ghost use Prim.Native.Nat.{_<_, min};
+ghost use Prim.Native.Nat.{min};
 ghost use mathlib.Core.Path.{_≡_};
 ghost use mathlib.Core.List.{_∷_};
 ghost use lib.ListN.{take};
-ghost use Rattle.positions.specs.Plans.{Planned};
 ghost use Rattle.words.specs.Text.{Written};
-ghost use Rattle.text.specs.Listing.{factsLine, safeLine, possibleLine, refusedLine, factLine, bytesLine, acceptedLine, claimRefusedLine};
-ghost use Rattle.text.specs.Facts.{planFact};
-use crate::facts::FactFields;
-use crate::facts::fact_at;
-use positions::plan::Plan;
+ghost use Rattle.text.specs.Listing.{factsLine, safeLine, possibleLine, refusedLine, bytesLine, acceptedLine, claimRefusedLine};
 use words::line::put_line;
 
 // The room for a line. The longest has a word of 16 bytes, six numbers of at most 20 digits with a blank before each, and the line feed.
@@ -63,18 +58,6 @@ pub fn refused_line(number: usize, value: usize, out: &mut [u8; ROOM]) -> usize
     ensures { λ r. ⌜ Written (refusedLine number value) (now (out .entry)) (now (out .exit)) r ⌝ }
 {
     put_line(out, b"refused", &[number, value])
-}
-
-// The line of the fact at position p.
-pub fn fact_line(s: Plan, p: usize, out: &mut [u8; ROOM]) -> usize
-    requires { ⌜ Planned s × (p < s .w) ⌝ }
-    ensures { λ r. ⌜ Written (factLine (planFact s p)) (now (out .entry)) (now (out .exit)) r ⌝ }
-{
-    match fact_at(s, p) {
-        FactFields::G { t, g, g2 } => put_line(out, b"G", &[t, g, g2]),
-        FactFields::P { t, g, l, g2, l2 } => put_line(out, b"P", &[t, g, l, g2, l2]),
-        FactFields::Q { t, g, l, f, g2, l2 } => put_line(out, b"Q", &[t, g, l, f, g2, l2]),
-    }
 }
 
 // The line of the number of bytes that a written claim takes.

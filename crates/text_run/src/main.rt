@@ -1,5 +1,6 @@
 // Prints lines of every kind of the listing and of the programs on claims, at the borders of their numbers and positions.
 ghost use Rattle.positions.specs.Plans.{Planned};
+use fact_text::line::fact_line;
 use libc::STDOUT_FILENO;
 use positions::plan::Plan;
 use positions::plan::plan_of;
@@ -7,7 +8,6 @@ use text::lines::ROOM;
 use text::lines::accepted_line;
 use text::lines::bytes_line;
 use text::lines::claim_refused_line;
-use text::lines::fact_line;
 use text::lines::facts_line;
 use text::lines::possible_line;
 use text::lines::refused_line;

@@ -1,12 +1,12 @@
--- `text::facts::fact_at` meets its contract: each kind has its part of the positions.
+-- `fact_text::facts::fact_at` meets its contract: each kind has its part of the positions.
 -- Assumes nothing.
 use mathlib.Core.Path.{sym, ap, _∙_}
 use native.Mathlib.Omega.{arith}
 use borrow.Author.Needs.{needs}
-use Rattle.text.specs.Facts.{fieldsOf}
-use Rattle.text.proofs.FactLaws.{fact-g, fact-p, fact-q, frames}
-use Rattle.text.proofs.facts.fact_at.Statement.{statement}
-use Rattle.text.proofs.facts.fact_at.Tie as tie
+use Rattle.fact_text.specs.Facts.{fieldsOf}
+use Rattle.fact_text.proofs.FactLaws.{fact-g, fact-p, fact-q, frames}
+use Rattle.fact_text.proofs.facts.fact_at.Statement.{statement}
+use Rattle.fact_text.proofs.facts.fact_at.Tie as tie
 
 g-fact-requires : tie.Need-g-fact-requires
 g-fact-requires c κs = search needs

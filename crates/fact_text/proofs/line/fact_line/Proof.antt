@@ -1,11 +1,11 @@
--- `text::lines::fact_line` meets its contract: each kind of fact has its letter and its fields.
+-- `fact_text::line::fact_line` meets its contract: each kind of fact has its letter and its fields.
 -- Assumes nothing.
 use borrow.Author.Needs.{needs}
 use Rattle.model.specs.Rules.{Fact}
-use Rattle.text.specs.Facts.{planFact}
-use Rattle.text.proofs.LineLaws.{fact-written}
-use Rattle.text.proofs.lines.fact_line.Statement.{statement}
-use Rattle.text.proofs.lines.fact_line.Tie as tie
+use Rattle.fact_text.specs.Facts.{planFact}
+use Rattle.fact_text.proofs.LineLaws.{fact-written}
+use Rattle.fact_text.proofs.line.fact_line.Statement.{statement}
+use Rattle.fact_text.proofs.line.fact_line.Tie as tie
 
 -- the fact at the position
 abbrev fact : tie.Start → Fact

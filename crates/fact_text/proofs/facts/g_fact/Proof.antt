@@ -1,10 +1,10 @@
--- `text::facts::g_fact` meets its contract: the digits of i, taken off from the right as model's atG does. No size is 0.
+-- `fact_text::facts::g_fact` meets its contract: the digits of i, taken off from the right as model's atG does. No size is 0.
 -- Assumes nothing.
 use mathlib.Core.Path.{refl}
 use borrow.Author.Needs.{needs}
 use Rattle.model.specs.Positions.{atG}
-use Rattle.text.proofs.facts.g_fact.Statement.{statement}
-use Rattle.text.proofs.facts.g_fact.Tie as tie
+use Rattle.fact_text.proofs.facts.g_fact.Statement.{statement}
+use Rattle.fact_text.proofs.facts.g_fact.Tie as tie
 
 div-a : tie.Need-div-a
 div-a c = search needs

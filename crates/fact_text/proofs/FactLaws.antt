@@ -10,7 +10,7 @@ use Rattle.model.specs.Positions.{baseP, baseQ, atG, atP, atQ, factAt}
 use Rattle.positions.specs.declared.plan.Plan.{Plan}
 use Rattle.positions.specs.Plans.{Planned, planOf}
 use Rattle.positions.proofs.Places.{called}
-use Rattle.text.specs.Facts.{sizesOf, planFact}
+use Rattle.fact_text.specs.Facts.{sizesOf, planFact}
 
 -- by the plan of a table, the fact at a position is model's
 pub fact-of-table : (T : Table) (p : ℕ) → planFact (planOf T) p ≡ factAt T p

@@ -5,8 +5,8 @@ use Rattle.files.specs.Table.{Table}
 use Rattle.model.specs.Rules.{Fact, G, P, Q}
 use Rattle.model.specs.Positions.{factAt}
 use Rattle.positions.specs.declared.plan.Plan.{Plan}
-use Rattle.text.specs.declared.facts.FactFields.{FactFields}
-use Rattle.text.specs.declared.facts.FactFields.the-variants as fields
+use Rattle.fact_text.specs.declared.facts.FactFields.{FactFields}
+use Rattle.fact_text.specs.declared.facts.FactFields.the-variants as fields
 
 -- A table with a plan's sizes and nothing else. What stands at a position hangs on the sizes alone, so it serves for any table of the plan.
 abbrev pub sizesOf : Plan → Table

@@ -3,7 +3,7 @@ ghost use mathlib.Core.Path.{_≡_};
 ghost use Prim.Native.Nat.{_<_};
 ghost use Rattle.model.specs.Positions.{atG, atP, atQ};
 ghost use Rattle.positions.specs.Plans.{Planned};
-ghost use Rattle.text.specs.Facts.{sizesOf, planFact, fieldsOf};
+ghost use Rattle.fact_text.specs.Facts.{sizesOf, planFact, fieldsOf};
 use positions::plan::Plan;
 
 // A fact: its kind, and its fields in the document's order.
