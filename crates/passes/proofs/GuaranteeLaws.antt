@@ -4,9 +4,7 @@
 use mathlib.Core.Path.{_≡_, refl, subst}
 use mathlib.Core.Bool.{Bool, true, false, not}
 use mathlib.Core.List.{List}
-use Prim.Native.Nat.{ℕ, _+_, _*_, _-_, _<_}
-use native.Mathlib.Nat.{not-suc-le-zero}
-use native.Mathlib.Decide.{decLt}
+use Prim.Native.Nat.{ℕ, _+_, _*_, _-_}
 use native.Mathlib.Omega.{arith}
 use lib.Dec.{eqb}
 use borrow.Author.Tests.{eqb-true, eqb-false}
@@ -25,18 +23,6 @@ use Rattle.uses.proofs.PassLaws.{swept-more, swept-idle, swept-with, swept-unde
 pub is-and : {A : Type 0} (B : Type 0) (r : Bool) → A → Is B r → Is (A × B) r
 is-and B true a b = (a, b)
 is-and B false a n = λ p. n (p .1)
-
--- none of the first numbers is in a set
-module _ {A : ℕ → Type 0} where
-  pub none-among : ¬ Among A 0
-  none-among a = not-suc-le-zero (a .lt)
-
-  pub none-among-more : {j : ℕ} → ¬ Among A j → ¬ A j → ¬ Among A (j + 1)
-  none-among-more {j} none here a = go (decLt (a .j) j)
-    where
-      go : Dec (a .j < j) → ⊥
-      go (yes l) = none (record { j = a .j; lt = l; here = a .here })
-      go (no l) = let e : a .j ≡ j = omega (arith, a .lt) in here (subst A e (a .here))
 
 -- the next mark is before the end, if there is one among the places before it
 pub next-some : {m : List ℕ} {x p : ℕ} (n : ℕ) → NextMark m x (x + n) p → Is (SomeIn m x n) (not (eqb p (x + n)))

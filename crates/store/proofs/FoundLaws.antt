@@ -2,7 +2,7 @@
 -- Assumes nothing.
 use mathlib.Core.Path.{_≡_, subst}
 use mathlib.Core.Bool.{Bool, true, false, not}
-use mathlib.Core.Logic.{_⊎_, inl, inr}
+use mathlib.Core.Logic.{_⊎_, inl, inr, ⊎-elim}
 use mathlib.Core.List.{List}
 use Prim.Native.Nat.{ℕ, _+_, _<_}
 use native.Mathlib.Nat.{not-suc-le-zero}
@@ -49,22 +49,30 @@ says-is (fails n) = n
 
 -- ---- tests over places
 
+-- none of no numbers is in A; one of the first j + 1 is one of the first j, or j
+module _ {A : ℕ → Type 0} where
+  pub none-among : ¬ Among A 0
+  none-among a = not-suc-le-zero (a .lt)
+
+  among-last : {j : ℕ} → Among A (j + 1) → Among A j ⊎ A j
+  among-last {j} a = go (decLt (a .j) j)
+    where
+      go : Dec (a .j < j) → Among A j ⊎ A j
+      go (yes l) = inl (record { j = a .j; lt = l; here = a .here })
+      go (no l) = let e : a .j ≡ j = omega (arith, a .lt) in inr (subst A e (a .here))
+
+  pub none-among-more : {j : ℕ} → ¬ Among A j → ¬ A j → ¬ Among A (j + 1)
+  none-among-more none here a = ⊎-elim none here (among-last a)
+
 pub among-none : {A : ℕ → Type 0} → Says (Among A 0) 0
-among-none = fails (λ s. not-suc-le-zero (s .lt))
+among-none = fails none-among
 
 among-next : {A : ℕ → Type 0} {j found here : ℕ} → Says (Among A j) found → Says (A j) here → Says (Among A (j + 1)) (bitOr found here)
-among-next {A} {j} s h = says-cast to fro (says-or s h)
+among-next {A} {j} s h = says-cast to among-last (says-or s h)
   where
     to : Among A j ⊎ A j → Among A (j + 1)
     to (inl a) = record { j = a .j; lt = omega (arith, a .lt); here = a .here }
     to (inr a) = record { j = j; lt = omega arith; here = a }
-
-    fro : Among A (j + 1) → Among A j ⊎ A j
-    fro a = go (decLt (a .j) j)
-      where
-        go : Dec (a .j < j) → Among A j ⊎ A j
-        go (yes l) = inl (record { j = a .j; lt = l; here = a .here })
-        go (no l) = let e : a .j ≡ j = omega (arith, a .lt) in inr (subst A e (a .here))
 
 module _ (m : List ℕ) (x : ℕ) {j found : ℕ} where
   pub some-next : Says (SomeIn m x j) found → Says (SomeIn m x (j + 1)) (bitOr found (boolByte (eqb (mark m (x + j)) 1)))

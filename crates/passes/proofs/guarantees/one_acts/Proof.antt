@@ -7,7 +7,7 @@ use borrow.Author.Needs.{needs}
 use Rattle.store.specs.Marking.{Among}
 use Rattle.store.proofs.MarkLaws.{is-true, is-false}
 use Rattle.passes.specs.Acting.{Acts}
-use Rattle.passes.proofs.GuaranteeLaws.{none-among, none-among-more}
+use Rattle.store.proofs.FoundLaws.{none-among, none-among-more}
 use Rattle.passes.proofs.guarantees.one_acts.Statement.{statement}
 use Rattle.passes.proofs.guarantees.one_acts.Tie as tie
 
