@@ -6,8 +6,8 @@ use mathlib.Core.List.{List}
 use Prim.Native.Nat.{ℕ, _≤_}
 use native.Mathlib.Omega.{arith}
 use Rattle.numbers.specs.declared.refusals.Refusal.{Refusal}
-use Rattle.numbers.specs.declared.refusals.Refusal.the-variants.{Cut, Long, Version, Outside, NotAbove, After}
 use Rattle.numbers.specs.Refusals.{toldOf}
+use Rattle.numbers.proofs.RefusalLaws.{told-to-6}
 use Rattle.numbers.specs.Reading.{got}
 use Rattle.files.specs.Table.{Table, W}
 use Rattle.files.specs.File.{tableAt}
@@ -29,30 +29,25 @@ use Rattle.claims.specs.Owed.{Changes}
 unchanged : {s m : List ℕ} {number : ℕ} → number ≤ 7 → Changes s m m number
 unchanged l = record { nothing = λ _ _. refl; clears = λ h. absurd (omega arith) }
 
+refused : {s m : List ℕ} (x : Refusal) → Changes s m m (toldOf x .number)
+refused x = unchanged (omega (arith, told-to-6 x))
+
 finished : {s m m′ : List ℕ} → Changes s m m′ 0
 finished = record { nothing = λ h. absurd (omega arith); clears = λ h. absurd (omega arith) }
 
 clearing : {s m m′ : List ℕ} {number : ℕ} {T : Table} {n : ℕ} → 8 ≤ number → tableAt s ≡ got T n → Cleared (W T) m m′ → Changes s m m′ number
 clearing l e c = record { nothing = λ _ h. absurd (omega arith); clears = λ _. record { table = _; next = _; is = e; cleared = c } }
 
-told-low : (x : Refusal) → toldOf x .number ≤ 7
-told-low (Cut length) = omega arith
-told-low (Long at) = omega arith
-told-low Version = omega arith
-told-low (Outside at) = omega arith
-told-low (NotAbove at) = omega arith
-told-low (After at) = omega arith
-
 pub check-changes : {s : List ℕ} {budget : ℕ} {m m′ : List ℕ} {a : Answer} → Checked s budget m a m′ → Changes s m m′ (replyOf a .number)
-check-changes (check.refused {x} e) = unchanged (told-low x)
+check-changes (check.refused {x} e) = refused x
 check-changes (check.read e (check.short l)) = unchanged (omega arith)
 check-changes (check.read e (check.over h x c)) = clearing (omega arith) e c
 check-changes (check.read e (check.done h f)) = finished
 
 pub claim-changes : {s c m m′ : List ℕ} {a : ClaimAnswer} → ClaimChecked s c m a m′ → Changes s m m′ (claim.replyOf a .number)
-claim-changes (claims.table-refused {x} e) = unchanged (told-low x)
+claim-changes (claims.table-refused {x} e) = refused x
 claim-changes (claims.table-read e (claims.short l)) = unchanged (omega arith)
-claim-changes (claims.table-read e (claims.claim-refused {x} h q)) = unchanged (told-low x)
+claim-changes (claims.table-read e (claims.claim-refused {x} h q)) = refused x
 claim-changes (claims.table-read e (claims.claim-read h q (claims.done x))) = finished
 claim-changes (claims.table-read e (claims.claim-read h q (claims.lacking x))) = clearing (omega arith) e (x .cleared)
 claim-changes (claims.table-read e (claims.claim-read h q (claims.missing x))) = clearing (omega arith) e (x .cleared)

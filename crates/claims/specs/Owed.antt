@@ -2,6 +2,7 @@
 --     Clears, Changes    demand 1, what a refusal leaves of the working memory
 --     IsAccepted         demands 2 and 3, that a claim is accepted
 --     RoomForClaim       demand 3, that there is room for the claim
+--     RunsSafely         demand 3, that no run of a file's table meets an error state
 use mathlib.Core.Path.{_≡_}
 use mathlib.Core.List.{List}
 use Prim.Native.Nat.{ℕ, _≤_}
@@ -9,6 +10,8 @@ use lib.ListN.{length}
 use Rattle.numbers.specs.Reading.{got}
 use Rattle.files.specs.Table.{Table, W}
 use Rattle.files.specs.File.{tableAt}
+use Rattle.model.specs.Runs.{State, Run}
+use Rattle.model.specs.Errors.{ErrorState}
 use Rattle.store.specs.Clearing.{Cleared}
 use Rattle.claim_checking.specs.declared.answer.ClaimAnswer.{ClaimAnswer}
 use Rattle.claim_checking.specs.declared.answer.ClaimAnswer.the-variants.{Accepted}
@@ -39,3 +42,10 @@ IsAccepted s T c count = (m m′ : List ℕ) (a : ClaimAnswer) → W T ≤ lengt
 -- "room for the claim enough": the space d is no shorter than the claim of the table's facts
 abbrev pub RoomForClaim : (s : List ℕ) → Table → (d : List ℕ) → Type 0
 RoomForClaim s T d = (bytes : List ℕ) → ClaimOf s T bytes → length bytes ≤ length d
+
+-- the file s holds a table, and no run of it from its start meets an error state
+pub record RunsSafely (s : List ℕ) : Type 0 where
+  pub table : Table
+  pub next : ℕ
+  pub is : tableAt s ≡ got table next
+  pub safe : (x : State) → Run table x → ¬ ErrorState table x

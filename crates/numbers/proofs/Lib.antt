@@ -6,6 +6,7 @@
 --   RoundTrip    reading and writing a number undo one another
 --   FieldLaws    a number that has a range
 --   VersionLaws  the version that a file begins with
+--   RefusalLaws  the number of a refusal is one of 1 to 6
 --   Unique       two results that a contract allows are equal
 pub mod ReadingLaws
 pub mod NumberLaws
@@ -14,4 +15,5 @@ pub mod PutLaws
 pub mod RoundTrip
 pub mod FieldLaws
 pub mod VersionLaws
+pub mod RefusalLaws
 pub mod Unique
