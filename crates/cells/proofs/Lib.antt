@@ -2,10 +2,12 @@
 --   RowMemory     five cells of a row; a run of stores over a whole memory
 --   RowLaws       cells and rows, and the loop that reads a row
 --   RowFits       a row that was read fits its columns
+--   RowStops      a row is refused where its first fault is
 --   StageLaws     what the answer of reading a row tells
 --   Unique        two results that a contract allows are equal
 pub mod RowMemory
 pub mod RowLaws
 pub mod RowFits
+pub mod RowStops
 pub mod StageLaws
 pub mod Unique

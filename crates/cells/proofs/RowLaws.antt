@@ -1,6 +1,7 @@
 -- Laws of cells and rows, and the invariant of the loop that reads a row.
 --     cell-got, cell-bad       what the code's answer for a cell tells of what was read
 --     onward-none, -push       what was read before, in front of what is read then
+--     row-none, -step, -stop   what `rowAt` gives, by its first cell
 --     Filling, fill-…          the row's cells up to column j are read, and the rest stands from p on
 -- Assumes nothing.
 use mathlib.Core.Path.{_≡_, refl, sym, ap, _∙_}
@@ -48,15 +49,15 @@ onward-push xs v (bad r) = refl
 
 -- ---- the loop over the columns
 
-row-step : (c : Column) (cs : List Column) (s : List ℕ) (p : ℕ) {v n : ℕ} → cellAt c s p ≡ got v n → rowAt (c ∷ cs) s p ≡ push v (rowAt cs s n)
+pub row-step : (c : Column) (cs : List Column) (s : List ℕ) (p : ℕ) {v n : ℕ} → cellAt c s p ≡ got v n → rowAt (c ∷ cs) s p ≡ push v (rowAt cs s n)
 unfolding rowAt
 row-step c cs s p e = rw e
 
-row-stop : (c : Column) (cs : List Column) (s : List ℕ) (p : ℕ) {r : Refusal} → cellAt c s p ≡ bad r → rowAt (c ∷ cs) s p ≡ bad r
+pub row-stop : (c : Column) (cs : List Column) (s : List ℕ) (p : ℕ) {r : Refusal} → cellAt c s p ≡ bad r → rowAt (c ∷ cs) s p ≡ bad r
 unfolding rowAt
 row-stop c cs s p e = rw e
 
-row-none : (s : List ℕ) (p : ℕ) → rowAt [] s p ≡ got [] p
+pub row-none : (s : List ℕ) (p : ℕ) → rowAt [] s p ≡ got [] p
 unfolding rowAt
 row-none s p = refl
 

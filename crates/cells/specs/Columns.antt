@@ -1,11 +1,18 @@
 -- The columns of the rows of a list, with the range of each (document 01, "The table, in file order").
-use Prim.Native.Nat.{ℕ}
+use Prim.Native.Nat.{ℕ, _≤_, _<_}
+use mathlib.Core.Logic.{_⊎_}
 use mathlib.Core.List.{List, [], _∷_}
 use lib.Dec.{ltb}
 use Rattle.numbers.specs.Reading.{pick}
 use Rattle.cells.specs.declared.columns.Column.{Column}
 use Rattle.cells.specs.declared.columns.Column.the-variants.{Within, Below, Absent}
 use Rattle.cells.specs.declared.columns.Sizes.{Sizes}
+
+-- a number is outside its column's range; a column that is not there has no number
+abbrev pub OutOf : Column → ℕ → Type 0
+OutOf (Within low most) v = (v < low) ⊎ (most < v)
+OutOf (Below end) v = end ≤ v
+OutOf Absent v = ⊥
 
 -- the column of thread t, where there are n threads
 abbrev pub ofThread : ℕ → ℕ → Column → Column

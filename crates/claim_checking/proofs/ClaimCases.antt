@@ -12,6 +12,7 @@ use Rattle.numbers.specs.Reading.{got}
 use Rattle.numbers.proofs.ReadingLaws.{never}
 use Rattle.files.specs.Table.{Table, W}
 use Rattle.files.specs.File.{tableAt}
+use Rattle.model.specs.Memory.{Holds}
 use Rattle.model.specs.Claims.{Claimed, Finding, Finds, accepted, lacks-start, not-closed, allows-error}
 use Rattle.model.proofs.Unique.{finding-same}
 use Rattle.rules.proofs.Unique.{got-table}
@@ -19,7 +20,6 @@ use Rattle.claim_files.specs.ClaimFile.{claimAt}
 use Rattle.claim_checking.specs.declared.answer.ClaimAnswer.{ClaimAnswer}
 use Rattle.claim_checking.specs.Answers.{answerOf}
 use Rattle.claim_checking.specs.ClaimChecking.{
-  HoldsClaim,
   OfPositions,
   done,
   lacking,
@@ -53,7 +53,7 @@ claim-was-read room e (claim-read _ e′ o) = rw (got-positions (sym e ∙ e′)
 
 -- the first W bytes after it
 abbrev pub Left : Table → List ℕ → Finding → List ℕ → Type 0
-Left T ps accepted m′ = HoldsClaim T ps m′
+Left T ps accepted m′ = Holds T (Claimed T ps) m′
 Left T ps (lacks-start t) m′ = take (W T) m′ ≡ replicate (W T) 0
 Left T ps (not-closed p) m′ = take (W T) m′ ≡ replicate (W T) 0
 Left T ps (allows-error row) m′ = take (W T) m′ ≡ replicate (W T) 0

@@ -23,14 +23,11 @@ use Rattle.claim_checking.specs.declared.answer.ClaimAnswer.the-variants
   AllowsError,
 }
 
--- the first W bytes hold the claimed facts: "On 0 the first W bytes hold the relations (or the claimed facts)."
-abbrev pub HoldsClaim : Table → List ℕ → List ℕ → Type 0
-HoldsClaim T ps m′ = Holds T (Claimed T ps) m′
-
--- The claim is accepted: neither 9 nor 10 nor 11 is found of the claimed facts. The first W bytes hold them, and the others are as they were.
+-- The claim is accepted: neither 9 nor 10 nor 11 is found of the claimed facts. "On 0 the first W bytes hold … the claimed facts", and the others are
+-- as they were.
 pub record Accepts (T : Table) (ps m m′ : List ℕ) : Type 0 where
   pub found : Finds T (Claimed T ps) accepted
-  pub facts : HoldsClaim T ps m′
+  pub facts : Holds T (Claimed T ps) m′
   pub rest : drop (W T) m′ ≡ drop (W T) m
 
 -- The claim is refused for what is found of the claimed facts: the first W bytes are cleared, and the others are as they were.

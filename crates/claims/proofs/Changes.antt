@@ -36,7 +36,7 @@ finished : {s m m′ : List ℕ} → Changes s m m′ 0
 finished = record { nothing = λ h. absurd (omega arith); clears = λ h. absurd (omega arith) }
 
 clearing : {s m m′ : List ℕ} {number : ℕ} {T : Table} {n : ℕ} → 8 ≤ number → tableAt s ≡ got T n → Cleared (W T) m m′ → Changes s m m′ number
-clearing l e c = record { nothing = λ _ h. absurd (omega arith); clears = λ _. record { table = _; next = _; is = e; cleared = c } }
+clearing l e c = record { nothing = λ _ h. absurd (omega arith); clears = λ _. (_, _, e, c) }
 
 pub check-changes : {s : List ℕ} {budget : ℕ} {m m′ : List ℕ} {a : Answer} → Checked s budget m a m′ → Changes s m m′ (replyOf a .number)
 check-changes (check.refused {x} e) = refused x

@@ -6,14 +6,18 @@
 -- Each of the three functions is proved to end and to meet its contract on every input, with no `requires`. Here s is a table's file and c a
 -- claim's; m is the working memory before a call and m′ after it; d is the space for a claim, and d′ the space after the call.
 -- Assumes nothing.
-use mathlib.Core.Path.{_≡_}
-use mathlib.Core.List.{List}
+use mathlib.Core.Path.{_≡_, ap}
+use mathlib.Core.List.{List, _∷_, _++_}
 use Prim.Native.Nat.{ℕ, _≤_, _<_}
-use lib.ListN.{length, take}
-use Rattle.numbers.specs.Reading.{got}
+use lib.ListN.{length, getD, take}
+use Rattle.numbers.specs.Reading.{got, numberAt}
+use Rattle.cells.specs.declared.columns.Column.{Column}
+use Rattle.cells.specs.Columns.{OutOf}
+use Rattle.cells.specs.Rows.{rowAt}
 use Rattle.files.specs.Table.{Table, Sound, W}
 use Rattle.files.specs.File.{tableAt}
 use Rattle.files.proofs.TableLaws.{table-sound}
+use Rattle.files.proofs.RoomLaws.{W-max}
 use Rattle.model.specs.Rules.{ClosedWithStarts}
 use Rattle.model.specs.Runs.{State, Run}
 use Rattle.model.specs.Errors as errors
@@ -24,11 +28,12 @@ use Rattle.verdict.specs.declared.search.Verdict.{Verdict}
 use Rattle.verdict.specs.declared.search.Verdict.the-variants.{Safe, Possible}
 use Rattle.rules.specs.declared.answer.Answer.{Answer}
 use Rattle.rules.specs.declared.answer.Answer.the-variants.{Done, Over}
-use Rattle.rules.specs.Answers.{replyOf}
+use Rattle.rules.specs.Answers.{plain, replyOf}
 use Rattle.rules.specs.Checking.{Checked, CheckDone}
 use Rattle.rules.proofs.Unique.{checked-same, checked-answer}
 use Rattle.rules.proofs.Exactly.{check-done, finishes-within, refused-beyond, budget-0-refused}
-use Rattle.claim_files.specs.ClaimFile.{claimAt}
+use Rattle.claim_files.specs.ClaimFile.{claimAt, claimBytes, Ascending}
+use Rattle.claim_files.proofs.RoundTrip.{claim-ascending, claim-back, claim-one}
 use Rattle.claim_checking.specs.declared.answer.ClaimAnswer.{ClaimAnswer}
 use Rattle.claim_checking.specs.declared.answer.ClaimAnswer.the-variants.{Accepted}
 use Rattle.claim_writing.specs.declared.answer.WriteAnswer.{WriteAnswer}
@@ -38,7 +43,8 @@ use Rattle.claim_checking.specs.ClaimChecking.{OfPositions, ClaimChecked}
 use Rattle.claim_writing.specs.Answers.{writeReplyOf}
 use Rattle.claim_writing.specs.ClaimWriting.{ClaimOf, ClaimWritten}
 use Rattle.claim_writing.specs.ReadBack.{WrittenClaim}
-use Rattle.claims.specs.Owed.{Changes, IsAccepted, RoomForClaim}
+use Rattle.claims.specs.Owed.{Changes, RowDue, IsAccepted, RoomForClaim}
+use Rattle.claims.proofs.OutOfRange.{out-of-range, check-refused, claim-refused, write-refused}
 use Rattle.claims.proofs.Changes.{check-changes, claim-changes, write-changes}
 use Rattle.claim_checking.proofs.ClaimCases.{table-was-read, claim-was-read}
 use Rattle.claims.proofs.Accepted as accepting
@@ -52,6 +58,21 @@ use Rattle.claim_writing.proofs.Unique.{claim-written-same, claim-written-answe
 -- a table that is let in has every number in its own column's range
 pub read-in-range : (s : List ℕ) {T : Table} {n : ℕ} → tableAt s ≡ got T n → Sound T
 read-in-range s {T} {n} e = table-sound s T n e
+
+-- "A number outside its own column's range is refused at its place", in any part of the file, all before it being sound. A row of the columns
+-- is due at a place; the cells before column c were read up to p; and v, which stands there, is outside the range of c. Each call answers 4, and the
+-- value is p.
+module _ {s : List ℕ} (before : List Column) (c : Column) (after : List Column) {at p v n : ℕ} {vs : List ℕ}
+    (due : RowDue s (before ++ c ∷ after) at) (cells : rowAt before s at ≡ got vs p) (number : numberAt s p ≡ got v n) (out : OutOf c v) where
+  pub check-refuses-out-of-range : {budget : ℕ} {m m′ : List ℕ} {a : Answer} → Checked s budget m a m′ → replyOf a ≡ plain 4 p
+  check-refuses-out-of-range h = ap replyOf (check-refused (out-of-range before c after due cells number out) h)
+
+  pub claim-check-refuses-out-of-range : {claimed m m′ : List ℕ} {a : ClaimAnswer} → ClaimChecked s claimed m a m′ → claim.replyOf a ≡ plain 4 p
+  claim-check-refuses-out-of-range h = ap claim.replyOf (claim-refused (out-of-range before c after due cells number out) h)
+
+  pub claim-writing-refuses-out-of-range : {budget : ℕ} {m d m′ d′ : List ℕ} {a : WriteAnswer} → ClaimWritten s budget m d a m′ d′
+      → writeReplyOf a ≡ plain 4 p
+  claim-writing-refuses-out-of-range h = ap writeReplyOf (write-refused (out-of-range before c after due cells number out) h)
 
 module _ {s : List ℕ} where
   module _ {budget : ℕ} {m m₁ m₂ : List ℕ} {a b : Answer} where
@@ -126,6 +147,18 @@ module _ {s : List ℕ} {T : Table} {n : ℕ} (e : tableAt s ≡ got T n) {m : L
 pub closed-and-safe-is-accepted : {s c ps : List ℕ} {T : Table} {n next : ℕ} → tableAt s ≡ got T n → claimAt (W T) c ≡ got ps next
     → ClosedWithStarts T (Claimed T ps) → errors.Safe T (Claimed T ps) → IsAccepted s T c (length ps)
 closed-and-safe-is-accepted = accepting.closed-and-safe-accepted
+
+-- Reading claims follows the layout exactly, whoever wrote them: positions that are read ascend and are below W; the claim of ascending positions
+-- below W is read as these; and no other file is read as them.
+pub claim-positions-ascend : (w : ℕ) (c ps : List ℕ) (next : ℕ) → claimAt w c ≡ got ps next → Ascending w ps
+claim-positions-ascend = claim-ascending
+
+pub every-claim-is-read : {T : Table} → Sound T → (ps : List ℕ) → Ascending (W T) ps → claimAt (W T) (claimBytes ps) ≡ got ps (length (claimBytes ps))
+every-claim-is-read {T} sound ps = claim-back (W T) ps (W-max T sound)
+
+-- c is a file's bytes
+pub no-other-file-is-read : (w : ℕ) (c ps : List ℕ) (next : ℕ) → ((i : ℕ) → getD c i 0 < 256) → claimAt w c ≡ got ps next → c ≡ claimBytes ps
+no-other-file-is-read = claim-one
 
 -- reading what was written gives exactly the table's facts, and writing is one to one
 pub written-read-back : {s : List ℕ} {budget : ℕ} {m d : List ℕ} {count : ℕ} {verdict : Verdict} {bytes : ℕ} {m′ d′ : List ℕ}

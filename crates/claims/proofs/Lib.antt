@@ -1,12 +1,14 @@
 -- What we owe, over the contracts of the three calls:
 --   Demands    the three demands: open it first
 --   Numbers    the demands by the numbers that callers get
+--   OutOfRange a number outside its column's range is refused at its place
 --   Changes    which refusals change what
 --   Accepted   what it means that a claim is accepted
 --   OwnClaims  what the check calls safe, claim writing writes, and the claim check accepts
 --   Cases      document 01's cases marked P, as one table and one statement
 pub mod Demands
 pub mod Numbers
+pub mod OutOfRange
 pub mod Changes
 pub mod Accepted
 pub mod OwnClaims

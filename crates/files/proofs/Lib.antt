@@ -2,6 +2,7 @@
 --   HeaderLaws     the stages of the header are the header
 --   RowKinds       rows as records and as cells
 --   TableLaws      what is known of a table that was read: it is sound, and where each cell stands
+--   TableStops     a file is refused where its first fault is
 --   TableStages    the stages of the file are the table
 --   RoomLaws       the room W, at most 2,360,320
 --   Cases          the definitions compute, on document 01's reference files
@@ -9,6 +10,7 @@
 pub mod HeaderLaws
 pub mod RowKinds
 pub mod TableLaws
+pub mod TableStops
 pub mod TableStages
 pub mod RoomLaws
 pub mod Cases

@@ -1,6 +1,7 @@
 -- Laws of the next row and of a list of rows, and the invariant of the loop that reads one.
 --     next-yes, -no, -bad, -first    what `nextRow` gives, one law for each way that it goes
 --     next-got                       what is known of a next row that was read
+--     rows-none, -step, -stop        what `rowsAt` gives, by its first row
 --     list-counted, -uncounted       what `listAt` gives, by its count
 --     Listing, list-…                i rows are read and stand in memory, and the rest of the list stands from p on
 -- Assumes nothing.
@@ -79,15 +80,15 @@ next-first i old cs s at {r} {n} five z e =
 -- ---- the loop over the rows
 
 module _ (k : ℕ) (old : List ℕ) (cs : List Column) (s : List ℕ) (at : ℕ) where
-  rows-step : {r : List ℕ} {n : ℕ} → nextRow old cs s at ≡ got r n → rowsAt (suc k) old cs s at ≡ push r (rowsAt k r cs s n)
+  pub rows-step : {r : List ℕ} {n : ℕ} → nextRow old cs s at ≡ got r n → rowsAt (suc k) old cs s at ≡ push r (rowsAt k r cs s n)
   unfolding rowsAt
   rows-step e = rw e
 
-  rows-stop : {x : Refusal} → nextRow old cs s at ≡ bad x → rowsAt (suc k) old cs s at ≡ bad x
+  pub rows-stop : {x : Refusal} → nextRow old cs s at ≡ bad x → rowsAt (suc k) old cs s at ≡ bad x
   unfolding rowsAt
   rows-stop e = rw e
 
-rows-none : (old : List ℕ) (cs : List Column) (s : List ℕ) (at : ℕ) → rowsAt 0 old cs s at ≡ got [] at
+pub rows-none : (old : List ℕ) (cs : List Column) (s : List ℕ) (at : ℕ) → rowsAt 0 old cs s at ≡ got [] at
 unfolding rowsAt
 rows-none old cs s at = refl
 
