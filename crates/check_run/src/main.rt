@@ -1,6 +1,7 @@
 // Runs the check on document 01's reference tables: in memory of 0xAA, with budgets at the count and one below it, and with memory one byte short.
 // Then on a table where a row leaves the failed store, and on one that returns from a call. Then counts the bytes that a check is to leave alone
-// and did not, and the facts of each kind in the training table, and runs it on tables at the limits of the sizes and just past them.
+// and did not, and the facts of each kind in the training table, and runs it on tables at the limits of the sizes and just past them. Last comes a
+// table that takes all of the bench's memory and budget.
 use libc::STDOUT_FILENO;
 use report::answers::first_line;
 use report::answers::verdict_line;
@@ -231,6 +232,83 @@ fn limits() {
     run(&all, MOST, 65536);
 }
 
+// ---- as much as the bench has
+
+// What the bench has of working memory and of budget, which is W of the table below and the number of its facts.
+const BENCH: usize = 65536;
+
+// The bytes of that table.
+type Full = [u8; 6097];
+
+// Puts a byte at `at`, where there is room, and gives the place past it.
+fn put(file: &mut Full, at: usize, byte: u8) -> usize {
+    if at < 6097 {
+        file[at] = byte;
+        return at + 1;
+    }
+    at
+}
+
+fn put_row(file: &mut Full, at: usize, a: u32, b: u32, c: u32, d: u32, e: u32) -> usize {
+    let p = put(file, at, (a % 256) as u8);
+    let q = put(file, p, (b % 256) as u8);
+    let r = put(file, q, (c % 256) as u8);
+    let s = put(file, r, (d % 256) as u8);
+    put(file, s, (e % 256) as u8)
+}
+
+// Each thread has a step row from each shared store to each: 1,024 rows. Those to the first six lead from local store 0 to 1, to the next six from 1 to 2,
+// and to the last four from 2 to 0.
+fn put_steps(file: &mut Full, at: usize) -> usize {
+    let low = put(file, at, 0x80);
+    let mut p = put(file, low, 0x08);
+    for k in 0..1024u32 {
+        let to = k % 16;
+        let local = to / 6;
+        p = put_row(file, p, k / 256, k / 16 % 16, local, to, (local + 1) % 3);
+    }
+    p
+}
+
+// Each thread calls from each place, 192 rows, and has each of the six frames in one of them.
+fn put_pushes(file: &mut Full, at: usize) -> usize {
+    let low = put(file, at, 0xC0);
+    let mut p = put(file, low, 0x01);
+    for k in 0..192u32 {
+        let local = k % 3;
+        let shared = k / 3 % 16;
+        p = put_row(
+            file,
+            p,
+            k / 48,
+            shared,
+            local,
+            local,
+            local * 2 + shared % 2,
+        );
+    }
+    p
+}
+
+// Four threads, 16 shared stores, 3 local stores, 6 frames; the rest of the header is 0, and there are no pop rows and no error rows. W is
+// 4 * 256 * (1 + 9 * 7), and every fact holds.
+fn full() -> Full {
+    let mut file = [0u8; 6097];
+    put_row(&mut file, 0, 1, 4, 16, 3, 6);
+    let steps = put_steps(&mut file, 11);
+    put_pushes(&mut file, steps);
+    file
+}
+
+// In all that the bench has, with one fact less of budget, and with one byte less of memory.
+fn bench() {
+    let table = full();
+    let mut mem = io::large_buffer();
+    check_in(&table, &mut mem, BENCH, BENCH);
+    check_in(&table, &mut mem, BENCH, BENCH - 1);
+    check_in(&table, &mut mem, BENCH - 1, BENCH);
+}
+
 fn main() {
     recursion();
     smallest();
@@ -241,4 +319,5 @@ fn main() {
     left_alone();
     kinds();
     limits();
+    bench();
 }
