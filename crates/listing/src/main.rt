@@ -1,6 +1,7 @@
 // The listing program (document 01, "Reference tables and results"): checks the table on standard input and prints what comes back.
 ghost use Prim.Native.Nat.{_+_, _≤_};
 ghost use lib.ListN.{length};
+ghost use Rattle.rules.specs.Checking.{Checked};
 use libc::STDIN_FILENO;
 use libc::STDOUT_FILENO;
 use report::answers::first_line;
@@ -11,8 +12,17 @@ use rules::answer::Answer;
 use rules::check::check;
 use text::lines::ROOM;
 
-// How many facts a check may find. The working memory, `io::large_buffer`, has as many bytes.
+// The bench's working memory, and how many facts a check may find there.
+type Memory = [u8; 65536];
+
 const BUDGET: usize = 65536;
+
+// Checks a table with all that the bench has.
+fn check_on_bench(table: &[u8], mem: &mut Memory) -> Answer
+    ensures { λ r. ⌜ Checked (now (table .entry)) 65536 (now (mem .entry)) r (now (mem .exit)) ⌝ }
+{
+    check(table, mem, BUDGET)
+}
 
 // Prints the lines of an answer.
 fn tell(table: &[u8], answer: Answer) {
@@ -52,7 +62,7 @@ fn put_line(line: &[u8], page: &mut [u8], used: usize) -> usize
 }
 
 // Prints the facts that are marked, a line each.
-fn list(table: &[u8], mem: &[u8]) {
+fn list(table: &[u8], mem: &Memory) {
     let mut line = [0u8; ROOM];
     let mut page = [0u8; PAGE];
     let mut used = 0;
@@ -74,7 +84,7 @@ fn list(table: &[u8], mem: &[u8]) {
 // Checks a table, and prints the answer; the facts too, if the check is done.
 fn run(table: &[u8]) {
     let mut mem = io::large_buffer();
-    let answer = check(table, &mut mem, BUDGET);
+    let answer = check_on_bench(table, &mut mem);
     tell(table, answer);
     match answer {
         Answer::Done {

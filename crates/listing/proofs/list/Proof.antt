@@ -18,8 +18,8 @@ abbrev μ-loop : tie.MeasureT-loop
 μ-loop table mem line₀ page₀ used₀ from₀ line page used from = length mem - from
 
 -- after a line
-on : (c : tie.After-length Inv-loop μ-loop) → let found = c .before .before in let head = found .before .before in
-    GoesOn (now (head .before .before .before .args .mem)) (head .loop .from) (head .loop .line) (found .next-fact .last .1 .1 .1 .0)
+on : (c : tie.After-length Inv-loop μ-loop) → let found = c .before .before in let head = found .before .before .before in
+    GoesOn (now (head .before .before .args .mem)) (head .loop .from) (head .loop .line) (found .next-fact .last .1 .1 .1 .0)
     (c .length .given .0 .0) (c .length .given .0 .1 .0)
 on c = goes-on (c .before .before .next-fact .ensures) (c .length .given .1)
 
@@ -44,7 +44,7 @@ slice-aggregate-put-line-2 c = search needs
 put-line-requires : tie.Need-put-line-requires Inv-loop μ-loop
 put-line-requires c κs =
     let o = on (c .before .before .before) in
-    let inv = c .before .before .before .before .before .before .before .loop .inv in
+    let inv = c .before .before .before .before .before .before .before .before .loop .inv in
     (omega (arith, o .here, o .same, inv), omega (arith, inv))
 
 loop-less : tie.Need-loop-less Inv-loop μ-loop
@@ -52,7 +52,7 @@ loop-less c = let o = on (c .before .before .before .before .before) in omega (a
 
 loop-again : tie.Need-loop-again Inv-loop μ-loop
 loop-again c =
-    let inv = c .before .before .before .before .before .before .before .before .before .loop .inv in
+    let inv = c .before .before .before .before .before .before .before .before .before .before .loop .inv in
     let put = c .before .put-line in
     let o = on (c .before .before .before .before .before) in
     (omega (arith, put .ensures, put .kept, inv), omega (arith, put .kept, inv), omega (arith, o .same, inv))
@@ -65,7 +65,7 @@ array-share-prefix-page c = search needs
 
 slice-aggregate-write-all : tie.Need-slice-aggregate-write-all Inv-loop μ-loop
 slice-aggregate-write-all c =
-    let head = c .before .before .before .before .before .loop in
+    let head = c .before .before .before .before .before .before .loop in
     sym (length-take-le _ _ (omega (arith, head .inv)))
 
 write-all-requires : tie.Need-write-all-requires Inv-loop μ-loop
