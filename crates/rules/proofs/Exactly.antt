@@ -23,8 +23,8 @@ use Rattle.model.specs.Positions.{pos}
 use Rattle.model.specs.Memory.{Counts, none, one, skip, FactCount}
 use Rattle.model.proofs.InRange.{derives-fits}
 use Rattle.model.proofs.Positions.{pos-lt, factAt-pos}
+use Rattle.model.proofs.Memory.{exceeds-count}
 use Rattle.model.proofs.Unique.{fact-count-same}
-use Rattle.engine.proofs.Determined.{exceeds-count}
 use Rattle.verdict.specs.declared.search.Verdict.{Verdict}
 use Rattle.verdict.proofs.Answers.{answers-same}
 use Rattle.rules.specs.declared.answer.Answer.{Answer}
