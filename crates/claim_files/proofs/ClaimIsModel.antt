@@ -3,16 +3,16 @@
 -- Assumes nothing.
 use mathlib.Core.Path.{_≡_}
 use mathlib.Core.List.{List}
-use Prim.Native.Nat.{ℕ, _≤_}
+use Prim.Native.Nat.{ℕ}
 use native.Mathlib.Omega.{arith}
 use lib.ListN.{length, replicate, length-replicate, getD-replicate}
 use Rattle.numbers.specs.Reading.{got}
 use Rattle.files.specs.Table.{Table, Sound, W}
 use Rattle.model.specs.Rules.{Fact}
-use Rattle.model.specs.Memory.{Says, holds, fails, Holds, CountOf}
+use Rattle.model.specs.Memory.{Holds, CountOf}
 use Rattle.model.specs.Claims.{Claimed}
 use Rattle.model.proofs.Claims.{claimed-held}
-use Rattle.model.proofs.Memory.{says-one, says-yes, says-cast, total-counts}
+use Rattle.model.proofs.Memory.{says-one, says-yes, says-bit, says-cast, total-counts}
 use Rattle.claim_files.specs.ClaimFile.{Ascending, claimAt}
 use Rattle.claim_files.specs.ClaimAnswers.{positionsOf}
 use Rattle.claim_files.specs.Marks.{positionsIn, Marks}
@@ -21,11 +21,6 @@ use Rattle.claim_files.proofs.ClaimMarks.{marks-made, marks-of}
 use Rattle.claim_files.proofs.MarkedPositions.{positions-total}
 use Rattle.claim_files.proofs.RoundTrip.{claim-ascending}
 use Rattle.claim_files.proofs.PositionsOfMarks.{ascending-below, positions-of-marks, positions-back}
-
--- a mark that says something is 0 or 1
-says-bit : {A : Type 0} {x : ℕ} → Says A x → x ≤ 1
-says-bit (holds _) = omega arith
-says-bit (fails _) = omega arith
 
 module _ {T : Table} (sound : Sound T) {w : ℕ} (facts : W T ≡ w) where
   marks-held : {ps mem : List ℕ} → Ascending w ps → Marks w ps mem → Holds T (Claimed T ps) mem

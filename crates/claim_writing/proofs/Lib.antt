@@ -3,7 +3,9 @@
 --   WritingStages     what is written of these marks is the claim of the facts
 --   WrittenLaws       what was written is read as the facts; one to one; accepted where the verdict is safe
 --   Unique            two results that a contract allows are equal
+--   Answered          for every input there is an answer that the contract allows
 pub mod PositionsOfFacts
 pub mod WritingStages
 pub mod WrittenLaws
 pub mod Unique
+pub mod Answered

@@ -24,6 +24,8 @@ use Rattle.model.specs.Errors as errors
 use Rattle.model.specs.Errors.{ErrorState}
 use Rattle.model.specs.Memory.{FactCount}
 use Rattle.model.specs.Claims.{Claimed}
+use Rattle.model.proofs.FactCounts.{fact-count-exists}
+use Rattle.model.proofs.Unique.{fact-count-same}
 use Rattle.verdict.specs.declared.search.Verdict.{Verdict}
 use Rattle.verdict.specs.declared.search.Verdict.the-variants.{Safe, Possible}
 use Rattle.rules.specs.declared.answer.Answer.{Answer}
@@ -31,7 +33,8 @@ use Rattle.rules.specs.declared.answer.Answer.the-variants.{Done, Over}
 use Rattle.rules.specs.Answers.{plain, replyOf}
 use Rattle.rules.specs.Checking.{Checked, CheckDone}
 use Rattle.rules.proofs.Unique.{checked-same, checked-answer}
-use Rattle.rules.proofs.Exactly.{check-done, finishes-within, refused-beyond, budget-0-refused}
+use Rattle.rules.proofs.Exactly.{check-done, finishes-within, refused-beyond, done-with-W, budget-0-refused}
+use Rattle.rules.proofs.Answered.{check-answered}
 use Rattle.claim_files.specs.ClaimFile.{claimAt, claimBytes, Ascending}
 use Rattle.claim_files.proofs.RoundTrip.{claim-ascending, claim-back, claim-one}
 use Rattle.claim_checking.specs.declared.answer.ClaimAnswer.{ClaimAnswer}
@@ -51,13 +54,26 @@ use Rattle.claims.proofs.Accepted as accepting
 use Rattle.claims.proofs.OwnClaims.{safe-accepted, safe-written}
 use Rattle.claim_writing.proofs.WrittenLaws.{written-claim, claim-one-to-one}
 use Rattle.claim_checking.proofs.Unique.{claim-checked-same, claim-answer-same}
+use Rattle.claim_checking.proofs.Answered.{claim-check-answered}
 use Rattle.claim_writing.proofs.Unique.{claim-written-same, claim-written-answer}
+use Rattle.claim_writing.proofs.Answered.{claim-writing-answered}
 
 -- ---- Demand 1: an answer, always
 
 -- a table that is let in has every number in its own column's range
 pub read-in-range : (s : List ℕ) {T : Table} {n : ℕ} → tableAt s ≡ got T n → Sound T
 read-in-range s {T} {n} e = table-sound s T n e
+
+-- every call ends with an answer: for every input there is one that the contract allows, and the function is proved to end with one
+pub check-ends : (s : List ℕ) (budget : ℕ) (m : List ℕ) → (a : Answer) × (m′ : List ℕ) × Checked s budget m a m′
+check-ends = check-answered
+
+pub claim-check-ends : (s c m : List ℕ) → (a : ClaimAnswer) × (m′ : List ℕ) × ClaimChecked s c m a m′
+claim-check-ends = claim-check-answered
+
+pub claim-writing-ends : (s : List ℕ) (budget : ℕ) (m d : List ℕ)
+    → (a : WriteAnswer) × (m′ : List ℕ) × (d′ : List ℕ) × ClaimWritten s budget m d a m′ d′
+claim-writing-ends = claim-writing-answered
 
 -- "A number outside its own column's range is refused at its place", in any part of the file, all before it being sound. A row of the columns
 -- is due at a place; the cells before column c were read up to p; and v, which stands there, is outside the range of c. Each call answers 4, and the
@@ -121,17 +137,27 @@ pub done-exactly : {s : List ℕ} {budget : ℕ} {m : List ℕ} {count : ℕ} {v
     → Checked s budget m (Done count verdict) m′ → CheckDone s budget m count verdict m′
 done-exactly = check-done
 
+-- every table has exactly one number of facts, G, P and Q together; it is at most W
+pub fact-count : (s : List ℕ) {T : Table} {n : ℕ} → tableAt s ≡ got T n → (c : ℕ) × FactCount T c × (c ≤ W T)
+fact-count s e = fact-count-exists (read-in-range s e)
+
+pub fact-count-one : (T : Table) {c c′ : ℕ} → FactCount T c → FactCount T c′ → c ≡ c′
+fact-count-one = fact-count-same
+
 -- a sound table, and memory enough
 module _ {s : List ℕ} {T : Table} {n : ℕ} (e : tableAt s ≡ got T n) {m : List ℕ} (room : W T ≤ length m) where
-  -- c is the number of facts: "It finishes exactly if the least relations hold no more facts (G, P and Q together) than the budget. The reported
-  -- count is that total."
-  module _ {budget c : ℕ} (counted : FactCount T c) {a : Answer} {m′ : List ℕ} (h : Checked s budget m a m′) where
-    pub finishes-if : c ≤ budget → (verdict : Verdict) × (a ≡ Done c verdict)
-    finishes-if = finishes-within e room counted h
+  module _ {budget : ℕ} {a : Answer} {m′ : List ℕ} (h : Checked s budget m a m′) where
+    -- "It finishes exactly if the least relations hold no more facts (G, P and Q together) than the budget. The reported count is that total."
+    pub finishes-if : fact-count s e .0 ≤ budget → (verdict : Verdict) × (a ≡ Done (fact-count s e .0) verdict)
+    finishes-if = finishes-within e room (fact-count s e .1) h
 
     -- 8, and the value is the budget
-    pub finishes-only-if : budget < c → a ≡ Over budget
-    finishes-only-if = refused-beyond e room counted h
+    pub finishes-only-if : budget < fact-count s e .0 → a ≡ Over budget
+    finishes-only-if = refused-beyond e room (fact-count s e .1) h
+
+    -- so with a budget of W or more it is never refused
+    pub done-with-budget-W : W T ≤ budget → (c : ℕ) × (verdict : Verdict) × (a ≡ Done c verdict) × FactCount T c
+    done-with-budget-W l = done-with-W e room l h
 
   -- "Budget 0, the table sound and the memory W or more: always 8, value 0."
   pub budget-0-is-8 : {a : Answer} {m′ : List ℕ} → Checked s 0 m a m′ → a ≡ Over 0

@@ -13,7 +13,7 @@ use Rattle.model.specs.Rules.{Starts, ClosedWithStarts}
 use Rattle.model.specs.Memory.{Marked}
 use Rattle.model.specs.Claims as model
 use Rattle.model.specs.Claims.{Finds}
-use Rattle.model.proofs.Claims.{none-missing-closed}
+use Rattle.model.proofs.Claims.{marked-closed}
 use Rattle.positions.specs.declared.plan.Plan.{Plan}
 use Rattle.positions.specs.Plans.{planOf}
 use Rattle.engine.specs.Answers as engine
@@ -45,7 +45,7 @@ module _ {T : Table} (sound : Sound T) {s : Plan} (plan : s ≡ planOf T) where
 
   pub closed-marked : {m : List ℕ} {p : ℕ} → Starts T (Marked T m) → Confirmed T m p → s .w ≤ p → ClosedWithStarts T (Marked T m)
   closed-marked a (engine.lacking f) h = absurd (omega (arith, w-by T plan, f .here .below))
-  closed-marked {m} a (engine.whole e n) h = record { starts = a; closed = none-missing-closed sound m n }
+  closed-marked {m} a (engine.whole e n) h = record { starts = a; closed = marked-closed sound m n }
 
 -- ---- 11
 

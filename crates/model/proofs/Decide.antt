@@ -3,18 +3,22 @@
 --     unfolding verdict?
 --     example = decided (verdict? T (omega arith) facts none) tt
 -- This file has the parts: each member of a list, some member, each number below a bound, the smallest number. The files below it decide
--- what is said of the facts of a list: exact? of the least relations, verdict? of the verdict, finding? of a claim.
+-- what is said of the facts of a list: exact? of the least relations, verdict? of the verdict, finding? of a claim. The last two are not
+-- evaluated but say what there is: Derivable, a list of the derivable facts of every sound table; Answered, a verdict and a finding.
 -- Assumes nothing.
 pub mod Yields
 pub mod Least
 pub mod Errors
 pub mod Claims
+pub mod Derivable
+pub mod Answered
 use mathlib.Core.Path.{_≡_, refl, subst, subst⁻¹}
-use mathlib.Core.Logic.{_↔_, Dec·and, Dec·not}
+use mathlib.Core.Logic.{_↔_, _⊎_, inl, inr, Dec·and, Dec·not}
 use mathlib.Core.List.{List, [], _∷_, List·Memᴰ, List·Memᴰ·head, List·Memᴰ·tail, Memᴰ·cast}
 use Prim.Native.Nat.{ℕ, zero, suc, _<_}
 use native.Mathlib.Decide.{ℕ-discrete, map-dec}
 use native.Mathlib.Omega.{arith}
+use borrow.Author.Count.{below-more}
 use Rattle.model.specs.Claims.{First}
 
 abbrev pub Yes : {A : Type 0} → Dec A → Type 0
@@ -94,3 +98,13 @@ first? : {B : ℕ → Type 0} → ((t : ℕ) → Dec (B t)) → (p : ℕ) → De
 unfolding all? Dec·not
 first? d p =
     map-dec (λ (h, n). record { here = h; none = n }) (λ f. (f .here, f .none)) (Dec·and (d p) (all? (λ q. Dec·not (d q)) p))
+
+-- the smallest number of B, or none below a bound
+first-below : {B : ℕ → Type 0} → ((t : ℕ) → Dec (B t)) → (n : ℕ) → ((p : ℕ) × First B p) ⊎ ((t : ℕ) → t < n → ¬ B t)
+first-below d zero = inr (λ t h. absurd (omega arith))
+first-below {B} d (suc n) = go (first-below d n) (d n)
+  where
+    go : ((p : ℕ) × First B p) ⊎ ((t : ℕ) → t < n → ¬ B t) → Dec (B n) → ((p : ℕ) × First B p) ⊎ ((t : ℕ) → t < suc n → ¬ B t)
+    go (inl found) _ = inl found
+    go (inr none) (yes b) = inl (n, record { here = b; none = none })
+    go (inr none) (no c) = inr (λ t h. below-more (λ t. ¬ B t) n none c t (omega arith))

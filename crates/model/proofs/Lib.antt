@@ -5,22 +5,25 @@
 --   Positions          facts in range and positions below W are one to one
 --   InRange            derivable facts are in range
 --   Memory             when a memory holds the least relations, that its sum is their number, and when they are over a budget
+--   FactCounts         every sound table has one number of facts, at most W, and a memory that holds the least relations
 --   Unique             the memory, the count, the smallest numbers, the verdict and the finding are determined
---   Claims             what a claim check finds by looking at marks
---   Decide             the least relations, the verdict and the finding decided by evaluation, for lists of facts
+--   Claims             what a claim check finds of a set that is decided, and of marks
+--   Decide             the least relations, the verdict and the finding decided by evaluation, for lists of facts; that there always is one
 --   Simple             the training table and its mutex of document 01, so decided
--- Lists, Counting, Order and Monotone are what these share.
+-- Lists, Counting, DecidedSets, Order and Monotone are what these share.
 pub mod AcceptedMeansSafe
 pub mod RunsAreHeld
 pub mod Least
 pub mod Positions
 pub mod InRange
 pub mod Memory
+pub mod FactCounts
 pub mod Unique
 pub mod Claims
 pub mod Decide
 pub mod Simple
 pub mod Lists
 pub mod Counting
+pub mod DecidedSets
 pub mod Order
 pub mod Monotone

@@ -3,12 +3,13 @@
 -- the first two are known has a sum that is no more than the number of facts; so if the sum is over a budget, the number is.
 -- Assumes nothing.
 use mathlib.Core.Path.{_≡_, refl}
-use mathlib.Core.List.{List}
+use mathlib.Core.List.{List, _++_}
 use Prim.Native.Nat.{ℕ, zero, suc, _+_, _≤_, _<_}
 use native.Mathlib.Nat.{add-zero}
 use native.Mathlib.Numerals.{add-one}
 use native.Mathlib.Omega.{arith}
-use lib.ListN.{length}
+use lib.ListN.{length, drop, length-append, List·getD-append}
+use lib.Seq.{drop-at}
 use Rattle.files.specs.Table.{Table, Sound, W}
 use Rattle.model.specs.Rules.{Fact, ClosedWithStarts, Derives}
 use Rattle.model.specs.Positions.{Fits, pos, factAt}
@@ -28,6 +29,7 @@ use Rattle.model.specs.Memory.{
   skip,
   CountOf,
   FactCount,
+  Exceeds,
 }
 use Rattle.model.proofs.Least.{least}
 use Rattle.model.proofs.Positions.{pos-lt, factAt-pos, factAt-stands}
@@ -41,6 +43,11 @@ says-one (fails n) e = absurd (omega arith)
 pub says-yes : {A : Type 0} {x : ℕ} → Says A x → A → x ≡ 1
 says-yes (holds _) a = refl
 says-yes (fails n) a = absurd (n a)
+
+-- a mark that says something is 0 or 1
+pub says-bit : {A : Type 0} {x : ℕ} → Says A x → x ≤ 1
+says-bit (holds _) = omega arith
+says-bit (fails _) = omega arith
 
 -- a mark of 0 or 1 that is not 1 is 0
 pub unmarked : (x : ℕ) → x ≤ 1 → ¬ (x ≡ 1) → x ≡ 0
@@ -88,6 +95,17 @@ holds-cast : {T : Table} {S S′ : Fact → Type 0} {mem : List ℕ} → ((f : F
     → Holds T S mem → Holds T S′ mem
 holds-cast to fro h = record { long = h .long; says = λ p l. says-cast (to _) (fro _) (h .says p l) }
 
+-- what W bytes hold, they hold before any others
+pub held-before : {T : Table} {S : Fact → Type 0} {mem : List ℕ} → length mem ≡ W T → Holds T S mem → (rest : List ℕ)
+    → Holds T S (mem ++ rest) × (drop (W T) (mem ++ rest) ≡ rest)
+held-before {T} {mem = mem} e h rest = (
+  record {
+    long = omega (arith, length-append mem rest);
+    says = λ p l. rw (List·getD-append mem rest 0 p (omega arith)) (h .says p l);
+  },
+  drop-at mem rest (W T) e,
+)
+
 -- ---- a memory of marks 0 and 1
 
 module _ {T : Table} (sound : Sound T) {mem : List ℕ} (bits : Bits T mem) where
@@ -120,6 +138,6 @@ module _ {T : Table} (sound : Sound T) {mem : List ℕ} (bits : Bits T mem) wher
         go (holds m) _ = absurd (n (sub _ m))
         go (fails _) i = omega arith
 
-    -- so if its sum is over a budget, the number of facts is
-    pub over-budget : {budget c : ℕ} → budget < total mem (W T) → FactCount T c → budget < c
-    over-budget l k = omega (arith, total-le-to (omega arith) k)
+-- so if some such memory exceeds a budget, the number of facts is above it
+pub exceeds-count : {T : Table} {budget c : ℕ} → Sound T → Exceeds T budget → FactCount T c → budget < c
+exceeds-count sound e k = omega (arith, e .over, total-le-to sound (e .bits) (e .derivable) (omega arith) k)

@@ -5,6 +5,7 @@
 --     done-again                with any other memory of W bytes or more it tells the same
 --     finishes-within           with no more facts than the budget, the check is done, and the count is their number
 --     refused-beyond            with more facts than the budget, the answer is 8
+--     done-with-W               with a budget of W or more it is always done
 --     facts-above-0             there is a fact: thread 0 has a start fact
 --     budget-0-refused          so with budget 0 the answer is 8
 -- Assumes nothing.
@@ -23,8 +24,9 @@ use Rattle.model.specs.Positions.{pos}
 use Rattle.model.specs.Memory.{Counts, none, one, skip, FactCount}
 use Rattle.model.proofs.InRange.{derives-fits}
 use Rattle.model.proofs.Positions.{pos-lt, factAt-pos}
+use Rattle.model.proofs.Memory.{exceeds-count}
+use Rattle.model.proofs.FactCounts.{exceeds-below-W}
 use Rattle.model.proofs.Unique.{fact-count-same}
-use Rattle.engine.proofs.Determined.{exceeds-count}
 use Rattle.verdict.specs.declared.search.Verdict.{Verdict}
 use Rattle.verdict.proofs.Answers.{answers-same}
 use Rattle.rules.specs.declared.answer.Answer.{Answer}
@@ -79,6 +81,15 @@ module _ {s : List ℕ} {T : Table} {n : ℕ} (e : tableAt s ≡ got T n) {m : L
 
     pub refused-beyond : budget < c → a ≡ Over budget
     refused-beyond l = beyond (table-sound s T n e) room counted l (was-read e h)
+
+  pub done-with-W : {budget : ℕ} {a : Answer} {m′ : List ℕ} → W T ≤ budget → Checked s budget m a m′
+      → (c : ℕ) × (verdict : Verdict) × (a ≡ Done c verdict) × FactCount T c
+  done-with-W {budget} l h = by (was-read e h)
+    where
+      by : {a : Answer} {m′ : List ℕ} → OfTable T budget m a m′ → (c : ℕ) × (verdict : Verdict) × (a ≡ Done c verdict) × FactCount T c
+      by (short i) = absurd (omega arith)
+      by (over i x z) = absurd (omega (arith, exceeds-below-W (table-sound s T n e) x))
+      by (done {count} {verdict} i f) = (count, verdict, refl, f .counted)
 
   pub budget-0-refused : {a : Answer} {m′ : List ℕ} → Checked s 0 m a m′ → a ≡ Over 0
   budget-0-refused h = by (was-read e h)

@@ -4,8 +4,10 @@
 --   Outcomes    the engine's and the verdict's answers are the check's
 --   Unique      two results that a contract allows are equal
 --   Exactly     when a check finishes, by the number of facts and the budget
+--   Answered    for every input there is an answer that the contract allows
 pub mod LentRows
 pub mod ReadTable
 pub mod Outcomes
 pub mod Unique
 pub mod Exactly
+pub mod Answered

@@ -17,9 +17,9 @@ use Rattle.numbers.proofs.Unique.{same, Fixes}
 use Rattle.files.specs.Table.{Table, Sound, W}
 use Rattle.files.specs.File.{tableAt}
 use Rattle.files.proofs.TableLaws.{table-sound}
+use Rattle.model.proofs.Memory.{exceeds-count}
 use Rattle.model.proofs.Unique.{holds-same, fact-count-same}
 use Rattle.store.proofs.Unique.{parts-same}
-use Rattle.engine.proofs.Determined.{exceeds-count}
 use Rattle.verdict.proofs.Answers.{answers-same}
 use Rattle.rules.specs.declared.answer.Answer.{Answer}
 use Rattle.rules.specs.declared.answer.Answer.the-variants.{Done, Refused}
