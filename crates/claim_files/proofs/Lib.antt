@@ -8,7 +8,7 @@
 --   RoundTrip         reading and writing a claim undo one another
 --   PositionsOfMarks  the positions that are marked are exactly the marked ones
 --   ClaimIsModel      a memory in which a claim is marked holds the claimed facts
---   Cases             the definitions compute, on document 01's claims
+--   Computed          the definition of a claim's file, ready to compute
 --   Unique            two results that a contract allows are equal
 pub mod PositionLaws
 pub mod ReadingLoops
@@ -19,5 +19,5 @@ pub mod ClaimBytes
 pub mod RoundTrip
 pub mod PositionsOfMarks
 pub mod ClaimIsModel
-pub mod Cases
+pub mod Computed
 pub mod Unique

@@ -12,7 +12,7 @@ use lib.Dec.{eqb}
 use lib.ListN.{length}
 use Rattle.numbers.specs.Reading.{Out, got, bad, pick}
 use Rattle.files.specs.Table.{Table, W}
-use Rattle.files.proofs.Cases.{reads}
+use Rattle.files.proofs.Computed.{reads}
 use Rattle.model.specs.Rules.{Fact}
 use Rattle.model.specs.Errors.{Witness}
 use Rattle.model.specs.Positions.{pos, baseP, baseQ, factAt}
@@ -23,7 +23,7 @@ use Rattle.model.proofs.Decide.Errors.{verdict?}
 use Rattle.model.proofs.Decide.Claims.{finding?}
 use Rattle.rules.specs.declared.answer.Reply.{Reply}
 use Rattle.rules.specs.Answers.{plain, told}
-use Rattle.claim_files.proofs.Cases.{claims}
+use Rattle.claim_files.proofs.Computed.{claims}
 use Rattle.claim_checking.specs.Answers.{replyOf, answerOf}
 use Rattle.claims.specs.Cases.{Case, refused, checked, claimed, RefusedAs, Reads, CheckedAs, ClaimedAs, Shown, cases}
 

@@ -65,7 +65,7 @@ pub one-meaning : (a b : Meaning) → numberOf a ≡ numberOf b → a ≡ b
 one-meaning a b e = sym (meaning-at a) ∙ ap (λ (k : ℕ). getD meanings k meaning.done) e ∙ meaning-at b
 
 refusal-means : (r : Refusal) → toldOf r .number ≡ numberOf (refusalMeans r)
-refusal-means (refusal.Cut length) = refl
+refusal-means (refusal.Cut bytes) = refl
 refusal-means (refusal.Long at) = refl
 refusal-means refusal.Version = refl
 refusal-means (refusal.Outside at) = refl

@@ -44,7 +44,7 @@ numberOf no-space = 12
 
 -- a refusal of a table's file, or of a claim's
 abbrev pub refusalMeans : Refusal → Meaning
-refusalMeans (refusal.Cut length) = cut
+refusalMeans (refusal.Cut bytes) = cut
 refusalMeans (refusal.Long at) = long
 refusalMeans refusal.Version = version
 refusalMeans (refusal.Outside at) = outside

@@ -5,7 +5,7 @@
 --   TableStops     a file is refused where its first fault is
 --   TableStages    the stages of the file are the table
 --   RoomLaws       the room W, at most 2,360,320
---   Cases          the definitions compute, on document 01's reference files
+--   Computed       the definition of a table's file, ready to compute
 --   Unique         two results that a contract allows are equal
 pub mod HeaderLaws
 pub mod RowKinds
@@ -13,5 +13,5 @@ pub mod TableLaws
 pub mod TableStops
 pub mod TableStages
 pub mod RoomLaws
-pub mod Cases
+pub mod Computed
 pub mod Unique

@@ -6,7 +6,7 @@ use Rattle.numbers.specs.declared.refusals.Refusal.the-variants.{Cut, Lo
 use Rattle.numbers.specs.Refusals.{toldOf}
 
 pub told-from-1 : (r : Refusal) → 1 ≤ toldOf r .number
-told-from-1 (Cut length) = omega arith
+told-from-1 (Cut bytes) = omega arith
 told-from-1 (Long at) = omega arith
 told-from-1 Version = omega arith
 told-from-1 (Outside at) = omega arith
@@ -14,7 +14,7 @@ told-from-1 (NotAbove at) = omega arith
 told-from-1 (After at) = omega arith
 
 pub told-to-6 : (r : Refusal) → toldOf r .number ≤ 6
-told-to-6 (Cut length) = omega arith
+told-to-6 (Cut bytes) = omega arith
 told-to-6 (Long at) = omega arith
 told-to-6 Version = omega arith
 told-to-6 (Outside at) = omega arith

@@ -46,11 +46,11 @@ groupsAt (suc left) least s at =
     (onto (getD s at 0 % 128) (groupsAt left 1 s (at + 1))))
     grouped.Cut
 
--- 1 where the bytes end, 2 where the number is too long or not shortest
+-- of a number at `at`, in a file of so many bytes: 1 where these end, 2 where the number is too long or not shortest
 abbrev pub outOf : ℕ → ℕ → Grouped → Out ℕ
-outOf length at (grouped.Value value next) = got value next
-outOf length at grouped.Cut = bad (refusal.Cut length)
-outOf length at grouped.Long = bad (refusal.Long at)
+outOf bytes at (grouped.Value value next) = got value next
+outOf bytes at grouped.Cut = bad (refusal.Cut bytes)
+outOf bytes at grouped.Long = bad (refusal.Long at)
 
 -- A number is one to four bytes, seven bits each, the least significant group first, the top bit set on all but the last byte.
 -- Of two bytes or more the last is not 0: only the shortest form is a number.

@@ -26,8 +26,8 @@ pub record Listed (T : Table) (A : ℕ → Type 0) (from p : ℕ) : Type 0 where
 -- What comes next, where the positions A are listed: the line of the first fact from `from` on, and the position past it; or, where there is none,
 -- the end, with nothing written. A line is written into a buffer that held `before`.
 pub data NextIn (T : Table) (A : ℕ → Type 0) (from : ℕ) (before : List ℕ) : Next → List ℕ → Type 0 where
-  line : {p length : ℕ} {after : List ℕ} → First (Listed T A from) p → Written (factLine (factAt T p)) before after length
-      → NextIn T A from before (Line length (p + 1)) after
+  line : {p written : ℕ} {after : List ℕ} → First (Listed T A from) p → Written (factLine (factAt T p)) before after written
+      → NextIn T A from before (Line written (p + 1)) after
   end : ((p : ℕ) → ¬ Listed T A from p) → NextIn T A from before End before
 
 -- the positions that are marked, in a memory that has room for all facts of the table

@@ -4,7 +4,7 @@ use mathlib.Core.Path.{_≡_, refl}
 use Rattle.numbers.specs.Reading.{got}
 use Rattle.files.specs.File.{tableAt}
 use Rattle.files.specs.Layout.{numbersOf}
-use Rattle.files.proofs.Cases.{reads}
+use Rattle.files.proofs.Computed.{reads}
 use Rattle.training.specs.Training.{training, mutex}
 
 pub training-reads : tableAt (numbersOf training) ≡ got training 576
