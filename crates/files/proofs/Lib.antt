@@ -2,7 +2,7 @@
 --   HeaderLaws     the stages of the header are the header
 --   RowKinds       rows as records and as cells
 --   TableLaws      what is known of a table that was read: it is sound, and where each cell stands
---   TableStages    the stages of the file are the table
+--   TableStages    the parts of the file are the table
 --   RoomLaws       the room W, at most 2,360,320
 --   Cases          the definitions compute, on document 01's reference files
 --   Unique         two results that a contract allows are equal
