@@ -1,5 +1,4 @@
 -- `files::table::keep_parts` meets its contract: where the file ends, its four lists were found, and each is kept.
-use native.Mathlib.Omega.{arith}
 use borrow.Author.Needs.{needs}
 use denote.Ref.{now}
 use Rattle.lists.specs.Keeping.{Found}
