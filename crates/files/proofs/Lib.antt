@@ -3,7 +3,7 @@
 --   RowKinds       rows as records and as cells
 --   TableLaws      what is known of a table that was read: it is sound, and where each cell stands
 --   TableStops     a file is refused where its first fault is
---   TableStages    the stages of the file are the table
+--   TableStages    the parts of the file are the table
 --   RoomLaws       the room W, at most 2,360,320
 --   Computed       the definition of a table's file, ready to compute
 --   Unique         two results that a contract allows are equal

@@ -1,13 +1,13 @@
--- The stages of the whole file, one after the other, are the table: the header, the four lists, the end.
---     stages-end    where the last stage ends, or its refusal, is the definition's
---     accepted      where it ends at a place, the answer and the memories are as the contract says
---     refused       and so they are where it ends in a refusal and the memories are wiped
--- Assumes nothing.
+-- The parts of a file, found one after the other, are the table's: the header, the four lists, the end.
+--     found-by, kept-by    the parts are found, and kept, by the columns that the code made
+--     parts-end            where the last part ends, or its refusal, is the definition's
+--     lists-found          where the file ends, the four lists are found
+--     accepted             and once they are kept, the answer and the memories are as the contract says
+--     refused              and so they are where it ends in a refusal and nothing is stored
 use mathlib.Core.Path.{_≡_, refl, sym, ap, _∙_}
 use mathlib.Core.List.{List, map}
 use Prim.Native.Nat.{ℕ}
-use lib.ListN.{length, replicate, length-replicate}
-use lib.Seq.{sets, length-sets}
+use lib.ListN.{length}
 use Rattle.numbers.specs.declared.refusals.Refusal.{Refusal}
 use Rattle.numbers.specs.Reading.{Out, got, bad, then}
 use Rattle.cells.specs.declared.columns.Column.{Column}
@@ -17,44 +17,43 @@ use Rattle.reader.specs.declared.ends.End.{End}
 use Rattle.reader.specs.declared.ends.End.the-variants.{Past, Refused}
 use Rattle.lists.specs.declared.list.ListRead.{ListRead}
 use Rattle.files.specs.declared.table.Outcome.the-variants as outcome
+use Rattle.files.specs.declared.table.Parts.{Parts}
 use Rattle.files.specs.declared.table.TableRead.{TableRead}
 use Rattle.files.specs.Table.{Table, stepCells, pushCells, popCells, errorCells, mostSteps, mostPushes, mostPops, mostErrors}
 use Rattle.cells.specs.Columns.{stepColumns, pushColumns, popColumns, errorColumns}
-use Rattle.lists.specs.Lists.{listAt, flat}
+use Rattle.lists.specs.Lists.{listAt}
 use Rattle.files.specs.Header.{headerAt, headerReadOf}
 use Rattle.files.specs.File.{stepOf, pushOf, popOf, errorOf, tableOf, tableAt, headerIn, tableReadOf, TableIs}
-use Rattle.lists.specs.ListAnswers.{listOf, listAfter, listHeld}
+use Rattle.files.specs.Stages.{stepsIn, pushesIn, popsIn, errorsIn, PartsOf, PartsKept}
+use Rattle.lists.specs.ListAnswers.{listOf, listAfter}
+use Rattle.lists.specs.Keeping.{Found, listHeld}
 use Rattle.reader.specs.Ends.{atEnd, endOf, after, endAfter}
 use Rattle.reader.proofs.EndLaws.{end-past, end-refused, end-after}
 use Rattle.lists.proofs.ListFits.{list-good}
 use Rattle.files.proofs.RowKinds.{step-back, push-back, pop-back, error-back, cells-back, map-long}
 use Rattle.files.proofs.TableLaws.{header-fits, TableGot, table-got, header-back}
 
--- ---- one list: its columns, its answer, its memory before and after
+-- ---- the parts, by the columns that the code made
 
-pub record Stage (e : End) (most : ℕ) (cs : List Column) (s : List ℕ) (a : ListRead) (m m′ : List ℕ) : Type 0 where
-  pub read : a ≡ listOf (listAfter e most cs s)
-  pub kept : m′ ≡ listHeld (listAfter e most cs s) m
+pub found-by : {s : List ℕ} {p : Parts} {c₁ c₂ c₃ c₄ : List Column} {last : End}
+    → record { header = p .header; end = p .steps } ≡ headerReadOf (headerAt s)
+    → c₁ ≡ stepColumns (p .header .sizes) → record { count = p .counts .steps; end = p .pushes } ≡ listOf (listAfter (p .steps) mostSteps c₁ s)
+    → c₂ ≡ pushColumns (p .header .sizes) → record { count = p .counts .pushes; end = p .pops } ≡ listOf (listAfter (p .pushes) mostPushes c₂ s)
+    → c₃ ≡ popColumns (p .header .sizes) → record { count = p .counts .pops; end = p .errors } ≡ listOf (listAfter (p .pops) mostPops c₃ s)
+    → c₄ ≡ errorColumns (p .header .sizes) → record { count = p .counts .errors; end = last } ≡ listOf (listAfter (p .errors) mostErrors c₄ s)
+    → p .end ≡ endAfter last s → PartsOf s p
+found-by {last} h q₁ f₁ q₂ f₂ q₃ f₃ q₄ f₄ e =
+    record { header = h; steps = rw q₁ at f₁; pushes = rw q₂ at f₂; pops = rw q₃ at f₃; last = last; errors = rw q₄ at f₄; end = e }
 
--- the columns are the ones that the code made
-pub stage : {e : End} {most : ℕ} {cs cs′ : List Column} {s : List ℕ} {a : ListRead} {m m′ : List ℕ} → cs′ ≡ cs
-    → (a ≡ listOf (listAfter e most cs′ s)) × (m′ ≡ listHeld (listAfter e most cs′ s) m) → Stage e most cs s a m m′
-stage q (r, k) = record { read = rw q at r; kept = rw q at k }
+pub kept-by : {s : List ℕ} {p : Parts} {c₁ c₂ c₃ c₄ : List Column} {a b c d a′ b′ c′ d′ : List ℕ}
+    → c₁ ≡ stepColumns (p .header .sizes) → a′ ≡ listHeld (listAfter (p .steps) mostSteps c₁ s) a
+    → c₂ ≡ pushColumns (p .header .sizes) → b′ ≡ listHeld (listAfter (p .pushes) mostPushes c₂ s) b
+    → c₃ ≡ popColumns (p .header .sizes) → c′ ≡ listHeld (listAfter (p .pops) mostPops c₃ s) c
+    → c₄ ≡ errorColumns (p .header .sizes) → d′ ≡ listHeld (listAfter (p .errors) mostErrors c₄ s) d
+    → PartsKept s p a b c d a′ b′ c′ d′
+kept-by q₁ k₁ q₂ k₂ q₃ k₃ q₄ k₄ = record { steps = rw q₁ at k₁; pushes = rw q₂ at k₂; pops = rw q₃ at k₃; errors = rw q₄ at k₄ }
 
-held-long : (o : Out (List (List ℕ))) (m : List ℕ) → length (listHeld o m) ≡ length m
-held-long (got rs n) m = length-sets m 0 (flat rs)
-held-long (bad x) m = length-replicate (length m) 0
-
-stage-long : {e : End} {most : ℕ} {cs : List Column} {s : List ℕ} {a : ListRead} {m m′ : List ℕ} → Stage e most cs s a m m′ → length m′ ≡ length m
-stage-long {e} {most} {cs} {s} {m} t = ap length (t .kept) ∙ held-long (listAfter e most cs s) m
-
--- a list that was read: its answer, and its rows in memory
-stage-got : {e : End} {most : ℕ} {cs cs′ : List Column} {s : List ℕ} {a : ListRead} {m m′ : List ℕ} {p n : ℕ} {rs : List (List ℕ)}
-    → Stage e most cs s a m m′ → e ≡ Past p → cs ≡ cs′ → listAt most cs′ s p ≡ got rs n
-    → (a ≡ record { count = length rs; end = Past n }) × (m′ ≡ sets m 0 (flat rs))
-stage-got {s} t e q l = (rw (e, q, l) at (t .read), rw (e, q, l) at (t .kept))
-
--- ---- where the stages end
+-- ---- where the parts end
 
 module _ (s : List ℕ) (h : Header) (f₁ f₂ f₃ f₄ : ℕ → Out (List (List ℕ))) where
   abbrev next : ListRead → (ℕ → Out (List (List ℕ))) → ListRead
@@ -91,89 +90,90 @@ module _ (s : List ℕ) (h : Header) (f₁ f₂ f₃ f₄ : ℕ → Out (List (L
 
 -- ---- the whole file
 
-pub record Staged (s : List ℕ) (top : HeaderRead) (a b c d : ListRead) (m₁ m₂ m₃ m₄ m₁′ m₂′ m₃′ m₄′ : List ℕ) : Type 0 where
-  pub header : top ≡ headerReadOf (headerAt s)
-  pub steps : Stage (top .end) mostSteps (stepColumns (top .header .sizes)) s a m₁ m₁′
-  pub pushes : Stage (a .end) mostPushes (pushColumns (top .header .sizes)) s b m₂ m₂′
-  pub pops : Stage (b .end) mostPops (popColumns (top .header .sizes)) s c m₃ m₃′
-  pub errors : Stage (c .end) mostErrors (errorColumns (top .header .sizes)) s d m₄ m₄′
+end-of : {a b : ListRead} → a ≡ b → a .end ≡ b .end
+end-of e = ap (λ (x : ListRead). x .end) e
 
-module _ {s : List ℕ} {top : HeaderRead} {a b c d : ListRead} {m₁ m₂ m₃ m₄ m₁′ m₂′ m₃′ m₄′ : List ℕ}
-    (t : Staged s top a b c d m₁ m₂ m₃ m₄ m₁′ m₂′ m₃′ m₄′) where
-  by-header : (o : Out Header) → top ≡ headerReadOf o
-      → endAfter (d .end) s
+-- what the answer tells of a list that was found
+list-told : {o : Out (List (List ℕ))} {k : ℕ} {e : End} {rs : List (List ℕ)} {n : ℕ} → record { count = k; end = e } ≡ listOf o → o ≡ got rs n
+    → (k ≡ length rs) × (e ≡ Past n)
+list-told t q =
+    let r = t ∙ ap listOf q in
+    (ap (λ (x : ListRead). x .count) r, end-of r)
+
+module _ {s : List ℕ} {p : Parts} (t : PartsOf s p) where
+  by-header : (o : Out Header) → record { header = p .header; end = p .steps } ≡ headerReadOf o
+      → endAfter (t .last) s
       ≡ endOf (then o λ h p.
       then (listAt mostSteps (stepColumns (h .sizes)) s p) λ steps p.
       then (listAt mostPushes (pushColumns (h .sizes)) s p) λ pushes p.
       then (listAt mostPops (popColumns (h .sizes)) s p) λ pops p.
       then (listAt mostErrors (errorColumns (h .sizes)) s p) λ errors p.
       atEnd (tableOf h steps pushes pops errors) s p)
-  by-header (got h p) e =
-      rw (t .errors .read, t .pops .read, t .pushes .read, t .steps .read, e)
+  by-header (got h n) e =
+      let top : p .steps ≡ Past n = ap (λ (x : HeaderRead). x .end) e in
+      let same : p .header ≡ h = ap (λ (x : HeaderRead). x .header) e in
+      rw (end-of (t .errors), end-of (t .pops), end-of (t .pushes), end-of (t .steps), top, same)
       (by₁ s h (listAt mostSteps (stepColumns (h .sizes)) s) (listAt mostPushes (pushColumns (h .sizes)) s)
-      (listAt mostPops (popColumns (h .sizes)) s) (listAt mostErrors (errorColumns (h .sizes)) s) (listAt mostSteps (stepColumns (h .sizes)) s p))
-  by-header (bad x) e = rw (t .errors .read, t .pops .read, t .pushes .read, t .steps .read, e)
+      (listAt mostPops (popColumns (h .sizes)) s) (listAt mostErrors (errorColumns (h .sizes)) s) (listAt mostSteps (stepColumns (h .sizes)) s n))
+  by-header (bad x) e =
+      let top : p .steps ≡ Refused x = ap (λ (x : HeaderRead). x .end) e in
+      rw (end-of (t .errors), end-of (t .pops), end-of (t .pushes), end-of (t .steps), top)
 
-  stages-end : endAfter (d .end) s ≡ endOf (tableAt s)
+  parts-end : p .end ≡ endOf (tableAt s)
   unfolding tableAt
-  stages-end = by-header (headerAt s) (t .header)
+  parts-end = t .end ∙ by-header (headerAt s) (t .header)
 
   -- ---- the answer
 
-  pub refused : {x : Refusal} {r : TableRead} {w₁ w₂ w₃ w₄ : List ℕ} → endAfter (d .end) s ≡ Refused x → r ≡ tableReadOf (bad x)
-      → w₁ ≡ replicate (length m₁′) 0 → w₂ ≡ replicate (length m₂′) 0 → w₃ ≡ replicate (length m₃′) 0 → w₄ ≡ replicate (length m₄′) 0
-      → TableIs s r m₁ m₂ m₃ m₄ w₁ w₂ w₃ w₄
-  refused {x} e q z₁ z₂ z₃ z₄ =
-      let b : tableAt s ≡ bad x = end-refused (tableAt s) x (sym stages-end ∙ e) in
-      record {
-        answer = rw b q;
-        steps = rw b (z₁ ∙ rw (stage-long (t .steps)));
-        pushes = rw b (z₂ ∙ rw (stage-long (t .pushes)));
-        pops = rw b (z₃ ∙ rw (stage-long (t .pops)));
-        errors = rw b (z₄ ∙ rw (stage-long (t .errors)));
-      }
+  pub refused : {x : Refusal} {r : TableRead} {a b c d : List ℕ} → p .end ≡ Refused x → r ≡ tableReadOf (bad x) → TableIs s r a b c d a b c d
+  refused {x} e q =
+      let b : tableAt s ≡ bad x = end-refused (tableAt s) x (sym parts-end ∙ e) in
+      record { answer = rw b q; steps = rw b; pushes = rw b; pops = rw b; errors = rw b }
 
-  -- what was read, stage by stage
-  module _ {T : Table} {n : ℕ} (e : tableAt s ≡ got T n) (g : TableGot s T n) where
-    read₀ : top ≡ record { header = g .header; end = Past (g .p₀) }
-    read₀ = t .header ∙ rw (g .header-was)
+  -- what was found, part by part
+  module _ {T : Table} {n : ℕ} (g : TableGot s T n) where
+    top-same : p .header ≡ g .header
+    top-same = ap (λ (x : HeaderRead). x .header) (t .header) ∙ rw (g .header-was)
 
-    sizes-same : top .header .sizes ≡ g .header .sizes
-    sizes-same = ap (λ (x : HeaderRead). x .header .sizes) read₀
+    top-end : p .steps ≡ Past (g .p₀)
+    top-end = ap (λ (x : HeaderRead). x .end) (t .header) ∙ rw (g .header-was)
 
-    read₁ : (a ≡ record { count = length (g .steps); end = Past (g .p₁) }) × (m₁′ ≡ sets m₁ 0 (flat (g .steps)))
-    read₁ = stage-got (t .steps) (ap (λ (x : HeaderRead). x .end) read₀) (ap stepColumns sizes-same) (g .steps-were)
+    found₁ : stepsIn p s ≡ got (g .steps) (g .p₁)
+    found₁ = rw (top-end, top-same) (g .steps-were)
 
-    read₂ : (b ≡ record { count = length (g .pushes); end = Past (g .p₂) }) × (m₂′ ≡ sets m₂ 0 (flat (g .pushes)))
-    read₂ = stage-got (t .pushes) (ap (λ (x : ListRead). x .end) (read₁ .0)) (ap pushColumns sizes-same) (g .pushes-were)
+    told₁ : (p .counts .steps ≡ length (g .steps)) × (p .pushes ≡ Past (g .p₁))
+    told₁ = list-told (t .steps) found₁
 
-    read₃ : (c ≡ record { count = length (g .pops); end = Past (g .p₃) }) × (m₃′ ≡ sets m₃ 0 (flat (g .pops)))
-    read₃ = stage-got (t .pops) (ap (λ (x : ListRead). x .end) (read₂ .0)) (ap popColumns sizes-same) (g .pops-were)
+    found₂ : pushesIn p s ≡ got (g .pushes) (g .p₂)
+    found₂ = rw (told₁ .1, top-same) (g .pushes-were)
 
-    read₄ : (d ≡ record { count = length (g .errors); end = Past n }) × (m₄′ ≡ sets m₄ 0 (flat (g .errors)))
-    read₄ = stage-got (t .errors) (ap (λ (x : ListRead). x .end) (read₃ .0)) (ap errorColumns sizes-same) (g .errors-were)
+    told₂ : (p .counts .pushes ≡ length (g .pushes)) × (p .pops ≡ Past (g .p₂))
+    told₂ = list-told (t .pushes) found₂
 
-    -- how many records a list has
-    count-same : {A : Type 0} (of : List ℕ → A) (rs : List (List ℕ)) {l : ListRead} {p : ℕ}
-        → l ≡ record { count = length rs; end = Past p } → l .count ≡ length (map of rs)
-    count-same of rs e = ap (λ (x : ListRead). x .count) e ∙ sym (map-long of rs)
+    found₃ : popsIn p s ≡ got (g .pops) (g .p₃)
+    found₃ = rw (told₂ .1, top-same) (g .pops-were)
 
-    made : TableIs s (record {
-      header = top .header;
-      counts = record { steps = a .count; pushes = b .count; pops = c .count; errors = d .count };
-      outcome = outcome.Accepted;
-    }) m₁ m₂ m₃ m₄ m₁′ m₂′ m₃′ m₄′
-    made =
+    told₃ : (p .counts .pops ≡ length (g .pops)) × (p .errors ≡ Past (g .p₃))
+    told₃ = list-told (t .pops) found₃
+
+    found₄ : errorsIn p s ≡ got (g .errors) n
+    found₄ = rw (told₃ .1, top-same) (g .errors-were)
+
+    told₄ : (p .counts .errors ≡ length (g .errors)) × (t .last ≡ Past n)
+    told₄ = list-told (t .errors) found₄
+
+    made : {a b c d a′ b′ c′ d′ : List ℕ} → tableAt s ≡ got T n → PartsKept s p a b c d a′ b′ c′ d′
+        → TableIs s (record { header = p .header; counts = p .counts; outcome = outcome.Accepted }) a b c d a′ b′ c′ d′
+    made {a} {b} {c} {d} e kept =
         let h = g .header in
         let z = h .sizes in
         let is : tableAt s ≡ got (tableOf h (g .steps) (g .pushes) (g .pops) (g .errors)) n = e ∙ ap (λ (x : Table). got x n) (g .is) in
-        let header : top .header ≡ headerIn (tableOf h (g .steps) (g .pushes) (g .pops) (g .errors)) =
-        ap (λ (x : HeaderRead). x .header) read₀
-        ∙ sym (header-back h (header-fits s h (g .p₀) (g .header-was)) (g .steps) (g .pushes) (g .pops) (g .errors)) in
-        let k₁ = count-same stepOf (g .steps) (read₁ .0) in
-        let k₂ = count-same pushOf (g .pushes) (read₂ .0) in
-        let k₃ = count-same popOf (g .pops) (read₃ .0) in
-        let k₄ = count-same (errorOf (z .threads)) (g .errors) (read₄ .0) in
+        let header : p .header ≡ headerIn (tableOf h (g .steps) (g .pushes) (g .pops) (g .errors)) =
+        top-same ∙ sym (header-back h (header-fits s h (g .p₀) (g .header-was)) (g .steps) (g .pushes) (g .pops) (g .errors)) in
+        let k₁ = told₁ .0 ∙ sym (map-long stepOf (g .steps)) in
+        let k₂ = told₂ .0 ∙ sym (map-long pushOf (g .pushes)) in
+        let k₃ = told₃ .0 ∙ sym (map-long popOf (g .pops)) in
+        let k₄ = told₄ .0 ∙ sym (map-long (errorOf (z .threads)) (g .errors)) in
         let b₁ = cells-back stepOf stepCells (stepColumns z) (step-back z) (list-good _ _ _ _ _ _ (g .steps-were) .0) in
         let b₂ = cells-back pushOf pushCells (pushColumns z) (push-back z) (list-good _ _ _ _ _ _ (g .pushes-were) .0) in
         let b₃ = cells-back popOf popCells (popColumns z) (pop-back z) (list-good _ _ _ _ _ _ (g .pops-were) .0) in
@@ -186,16 +186,24 @@ module _ {s : List ℕ} {top : HeaderRead} {a b c d : ListRead} {m₁ m₂ m₃ 
                 counts = record { steps = k₁ i; pushes = k₂ i; pops = k₃ i; errors = k₄ i };
                 outcome = outcome.Accepted;
               });
-          steps = rw (is, b₁) (read₁ .1);
-          pushes = rw (is, b₂) (read₂ .1);
-          pops = rw (is, b₃) (read₃ .1);
-          errors = rw (is, b₄) (read₄ .1);
+          steps = rw (is, b₁) (kept .steps ∙ ap (λ (o : Out (List (List ℕ))). listHeld o a) found₁);
+          pushes = rw (is, b₂) (kept .pushes ∙ ap (λ (o : Out (List (List ℕ))). listHeld o b) found₂);
+          pops = rw (is, b₃) (kept .pops ∙ ap (λ (o : Out (List (List ℕ))). listHeld o c) found₃);
+          errors = rw (is, b₄) (kept .errors ∙ ap (λ (o : Out (List (List ℕ))). listHeld o d) found₄);
         }
 
-  pub accepted : {n : ℕ} → endAfter (d .end) s ≡ Past n
-      → TableIs s (record {
-        header = top .header;
-        counts = record { steps = a .count; pushes = b .count; pops = c .count; errors = d .count };
-        outcome = outcome.Accepted;
-      }) m₁ m₂ m₃ m₄ m₁′ m₂′ m₃′ m₄′
-  accepted {n} e = let v = end-past (tableAt s) n (sym stages-end ∙ e) in made (v .1) (table-got s (v .0) n (v .1))
+  -- the table, where the file ends
+  table-there : {n : ℕ} → p .end ≡ Past n → (T : Table) × (tableAt s ≡ got T n)
+  table-there {n} e = end-past (tableAt s) n (sym parts-end ∙ e)
+
+  pub lists-found : {n : ℕ} → p .end ≡ Past n → Found (stepsIn p s) × Found (pushesIn p s) × Found (popsIn p s) × Found (errorsIn p s)
+  lists-found {n} e =
+      let (T, is) = table-there e in
+      let g = table-got s T n is in
+      ((_, _, found₁ g), (_, _, found₂ g), (_, _, found₃ g), (_, _, found₄ g))
+
+  pub accepted : {n : ℕ} {a b c d a′ b′ c′ d′ : List ℕ} → p .end ≡ Past n → PartsKept s p a b c d a′ b′ c′ d′
+      → TableIs s (record { header = p .header; counts = p .counts; outcome = outcome.Accepted }) a b c d a′ b′ c′ d′
+  accepted {n} e kept =
+      let (T, is) = table-there e in
+      made (table-got s T n is) is kept

@@ -2,7 +2,7 @@
 use Prim.Native.Nat.{ℕ}
 use mathlib.Core.Path.{_≡_}
 use mathlib.Core.List.{List, [], _∷_, map}
-use lib.ListN.{length, getD, take, drop, replicate}
+use lib.ListN.{length, getD, take, drop}
 use lib.Seq.{sets}
 use Rattle.numbers.specs.Reading.{Out, got, bad, then}
 use Rattle.reader.specs.Ends.{atEnd}
@@ -75,10 +75,10 @@ tableReadOf (bad r) = record { header = noHeader; counts = record { steps = 0; p
 abbrev pub rowBytes : {Row : Type 0} → (Row → List ℕ) → List Row → List ℕ
 rowBytes cells rows = flat (map cells rows)
 
--- what a list's memory d holds afterwards: its rows from the start on, and after a refusal zeros
+-- what a list's memory d holds afterwards: its rows from the start on; a refusal changes nothing
 abbrev pub heldIn : (Table → List ℕ) → Out Table → List ℕ → List ℕ
 heldIn bytes (got T next) d = sets d 0 (bytes T)
-heldIn bytes (bad r) d = replicate (length d) 0
+heldIn bytes (bad r) d = d
 
 -- the contract of the table reader: the answer, and what each memory holds
 pub record TableIs (s : List ℕ) (r : TableRead) (a b c d a′ b′ c′ d′ : List ℕ) : Type 0 where

@@ -3,7 +3,10 @@
 --   Header     reading the header
 --   File       reading the whole file, and what the reader answers and stores
 --   Layout     the numbers of a table in file order
+-- and the private contracts besides
+--   Stages     the parts of a table file, found and kept
 pub mod Table
 pub mod Header
 pub mod File
 pub mod Layout
+pub mod Stages

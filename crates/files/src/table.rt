@@ -1,7 +1,11 @@
-// The whole table file, into memory of the caller's: five bytes a row, each list in a memory of its own.
+// The whole table file, into memory of the caller's: five bytes a row, each list in a memory of its own. A file is found to be a table first, and
+// only then is a byte stored.
 ghost use mathlib.Core.Path.{_≡_};
+ghost use Prim.Native.Nat.{ℕ};
 ghost use Rattle.numbers.specs.Reading.{bad};
+ghost use Rattle.reader.specs.declared.ends.End.the-variants.{Past};
 ghost use Rattle.files.specs.File.{tableReadOf, TableIs};
+ghost use Rattle.files.specs.Stages.{PartsOf, PartsKept};
 use crate::header::Header;
 use crate::header::no_header;
 use crate::header::read_header;
@@ -9,20 +13,20 @@ use cells::columns::error_columns;
 use cells::columns::pop_columns;
 use cells::columns::push_columns;
 use cells::columns::step_columns;
-use lists::list::list_after;
-use lists::list::wipe;
+use lists::list::find_list;
+use lists::list::keep_list;
 use numbers::refusals::Refusal;
 use reader::ends::End;
 use reader::ends::end_after;
 
 // How many rows each list may have.
-const MOST_STEPS: u32 = 1024;
+const MOST_STEPS: u16 = 1024;
 
-const MOST_PUSHES: u32 = 256;
+const MOST_PUSHES: u16 = 256;
 
-const MOST_POPS: u32 = 256;
+const MOST_POPS: u16 = 256;
 
-const MOST_ERRORS: u32 = 64;
+const MOST_ERRORS: u16 = 64;
 
 // How many rows each list has.
 pub struct Counts {
@@ -60,7 +64,78 @@ fn no_table(refusal: Refusal) -> TableRead
     }
 }
 
-// The table that a file holds, or the refusal. The rows go into the four memories, five bytes a row; after a refusal these are all 0.
+// The parts of a table file: the header, how many rows each list has, where what stands before each list ends, and where the file ends. An end is
+// a place or the first refusal.
+struct Parts {
+    header: Header,
+    counts: Counts,
+    steps: End,
+    pushes: End,
+    pops: End,
+    errors: End,
+    end: End,
+}
+
+// The parts of a file, found one after the other.
+fn find_parts(src: &[u8]) -> Parts
+    ensures { λ r. ⌜ PartsOf (now (src .entry)) r ⌝ }
+{
+    let top = read_header(src);
+    let header = top.header;
+    let top_end = top.end;
+    let sizes = header.sizes;
+    let a = find_list(src, top_end, MOST_STEPS, step_columns(sizes));
+    let a_end = a.end;
+    let b = find_list(src, a_end, MOST_PUSHES, push_columns(sizes));
+    let b_end = b.end;
+    let c = find_list(src, b_end, MOST_POPS, pop_columns(sizes));
+    let c_end = c.end;
+    let d = find_list(src, c_end, MOST_ERRORS, error_columns(sizes));
+    let d_end = d.end;
+    let end = end_after(src, d_end);
+    Parts {
+        header,
+        counts: Counts {
+            steps: a.count,
+            pushes: b.count,
+            pops: c.count,
+            errors: d.count,
+        },
+        steps: top_end,
+        pushes: a_end,
+        pops: b_end,
+        errors: c_end,
+        end,
+    }
+}
+
+// The rows of a table that was found, into the four memories.
+fn keep_parts(
+    src: &[u8],
+    parts: Parts,
+    steps: &mut [u8; 5120],
+    pushes: &mut [u8; 1280],
+    pops: &mut [u8; 1280],
+    errors: &mut [u8; 320],
+)
+    requires { ⌜ PartsOf (now src) parts × ((n : ℕ) × (parts .end ≡ Past n)) ⌝ }
+    ensures { λ _. ⌜ PartsKept (now (src .entry)) parts
+        (now (steps .entry)) (now (pushes .entry)) (now (pops .entry)) (now (errors .entry))
+        (now (steps .exit)) (now (pushes .exit)) (now (pops .exit)) (now (errors .exit)) ⌝ }
+{
+    let header = parts.header;
+    let sizes = header.sizes;
+    let a = parts.steps;
+    let b = parts.pushes;
+    let c = parts.pops;
+    let d = parts.errors;
+    keep_list(src, a, MOST_STEPS, step_columns(sizes), steps);
+    keep_list(src, b, MOST_PUSHES, push_columns(sizes), pushes);
+    keep_list(src, c, MOST_POPS, pop_columns(sizes), pops);
+    keep_list(src, d, MOST_ERRORS, error_columns(sizes), errors);
+}
+
+// The table that a file holds, or the refusal. The rows go into the four memories, five bytes a row; a refusal changes nothing.
 pub fn read_table(
     src: &[u8],
     steps: &mut [u8; 5120],
@@ -72,35 +147,19 @@ pub fn read_table(
         (now (steps .entry)) (now (pushes .entry)) (now (pops .entry)) (now (errors .entry))
         (now (steps .exit)) (now (pushes .exit)) (now (pops .exit)) (now (errors .exit)) ⌝ }
 {
-    let top = read_header(src);
-    let header = top.header;
-    let top_end = top.end;
-    let sizes = header.sizes;
-    let a = list_after(src, top_end, MOST_STEPS, step_columns(sizes), steps);
-    let a_end = a.end;
-    let b = list_after(src, a_end, MOST_PUSHES, push_columns(sizes), pushes);
-    let b_end = b.end;
-    let c = list_after(src, b_end, MOST_POPS, pop_columns(sizes), pops);
-    let c_end = c.end;
-    let d = list_after(src, c_end, MOST_ERRORS, error_columns(sizes), errors);
-    let d_end = d.end;
-    match end_after(src, d_end) {
-        End::Past { next: _ } => TableRead {
-            header,
-            counts: Counts {
-                steps: a.count,
-                pushes: b.count,
-                pops: c.count,
-                errors: d.count,
-            },
-            outcome: Outcome::Accepted,
-        },
-        End::Refused { refusal } => {
-            wipe(steps);
-            wipe(pushes);
-            wipe(pops);
-            wipe(errors);
-            no_table(refusal)
+    let parts = find_parts(src);
+    let header = parts.header;
+    let counts = parts.counts;
+    let end = parts.end;
+    match end {
+        End::Past { next: _ } => {
+            keep_parts(src, parts, steps, pushes, pops, errors);
+            TableRead {
+                header,
+                counts,
+                outcome: Outcome::Accepted,
+            }
         }
+        End::Refused { refusal } => no_table(refusal),
     }
 }

@@ -203,17 +203,17 @@ fn write_refused(refusal: Refusal, memory: &Room) {
     let told = tell(refusal);
     number(b": refused ", told.number as usize);
     spaced(told.value);
-    number(b", zeros ", count(memory, 0));
+    number(b", kept ", count(memory, FILL));
 }
 
 // Runs the table reader on a file and ends a line with what comes back, as
 //
 //     : accepted 1 2 2 1 0 0 0 0 0 0, W 36, steps 1 | 0 0 0 1 1, pushes 0, pops 0, errors 1 | 2 1 0 0 0, kept 7990, checksum 12345
-//     : refused 4 1, zeros 8000
+//     : refused 4 1, kept 8000
 //
 // The numbers after `accepted` are n, G, L, F, failed, the initial shared store and four initial local stores. Each list has its count
 // and the first rows of its memory, at most three. The four memories have 8,000 bytes, which are all 170 before: `kept` counts those
-// that still are, and after a refusal `zeros` counts those that are 0.
+// that still are. No cell is 170, so after a refusal all 8,000 are kept.
 fn show_whole(file: &[u8]) {
     let mut memory = [FILL; 8192];
     let came = read(file, &mut memory);

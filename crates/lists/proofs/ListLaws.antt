@@ -1,31 +1,30 @@
--- Laws of the next row and of a list of rows, and the invariant of the loop that reads one.
+-- Laws of the next row and of a list of rows, and the invariant of the loop that finds one.
 --     next-yes, -no, -bad, -first    what `nextRow` gives, one law for each way that it goes
 --     next-got                       what is known of a next row that was read
 --     rows-none, -step, -stop        what `rowsAt` gives, by its first row
 --     list-counted, -uncounted       what `listAt` gives, by its count
---     Listing, list-…                i rows are read and stand in memory, and the rest of the list stands from p on
--- Assumes nothing.
+--     Listing, list-…, next-found    i rows are read, and the rest of the list stands from p on
+--     Finding, find-…                the same in the loop that finds a list
 use mathlib.Core.Path.{_≡_, refl, sym, ap, _∙_}
-use mathlib.Core.List.{List, [], _∷_, _++_, append-nil, append-assoc}
+use mathlib.Core.List.{List, [], _∷_, _++_, append-nil}
 use mathlib.Core.Bool.{Bool, true, false}
-use Prim.Native.Nat.{ℕ, zero, suc, _+_, _-_, _*_, _≤_, _<_}
+use Prim.Native.Nat.{ℕ, zero, suc, _+_, _-_, _≤_, _<_}
 use native.Mathlib.Omega.{arith}
-use native.Mathlib.Nat.{sub-zero, zero-add}
+use native.Mathlib.Nat.{sub-zero}
 use lib.ListN.{length, length-append}
-use lib.Seq.{sets, length-sets}
 use Rattle.numbers.specs.declared.refusals.Refusal.{Refusal}
 use Rattle.numbers.specs.declared.refusals.Refusal.the-variants.{NotAbove}
-use Rattle.numbers.specs.Reading.{got, bad, pick, fieldAt}
+use Rattle.numbers.specs.Reading.{Out, got, bad, pick, fieldAt}
 use Rattle.numbers.proofs.ReadingLaws.{never, parts}
 use Rattle.cells.specs.declared.columns.Column.{Column}
 use Rattle.reader.specs.declared.ends.End.the-variants.{Past}
 use Rattle.lists.specs.declared.list.ListRead.{ListRead}
 use Rattle.lists.specs.Order.{below}
 use Rattle.cells.specs.Rows.{push, rowAt}
-use Rattle.lists.specs.Lists.{nextRow, rowsAt, listAt, flat}
+use Rattle.lists.specs.Lists.{nextRow, rowsAt, listAt}
 use Rattle.lists.specs.ListAnswers.{listOf}
-use Rattle.lists.specs.Stages.{oldOf, ListKept}
-use Rattle.numbers.proofs.PutLaws.{sets-append}
+use Rattle.lists.specs.Keeping.{Found}
+use Rattle.lists.specs.Stages.{oldOf}
 use Rattle.cells.proofs.RowLaws.{onward, onward-none, onward-push}
 use Rattle.cells.proofs.RowFits.{row-long}
 
@@ -88,73 +87,79 @@ module _ (k : ℕ) (old : List ℕ) (cs : List Column) (s : List ℕ) (at : ℕ)
   unfolding rowsAt
   rows-stop e = rw e
 
+  rows-first : Found (rowsAt (suc k) old cs s at) → (r : List ℕ) × (n : ℕ) × (nextRow old cs s at ≡ got r n)
+  unfolding rowsAt
+  rows-first (rs, m, e) = let p = parts (nextRow old cs s at) _ rs m e in (p .first, p .place, p .was)
+
 pub rows-none : (old : List ℕ) (cs : List Column) (s : List ℕ) (at : ℕ) → rowsAt 0 old cs s at ≡ got [] at
 unfolding rowsAt
 rows-none old cs s at = refl
 
-flat-snoc : (rs : List (List ℕ)) (r : List ℕ) → flat (rs ++ (r ∷ [])) ≡ flat rs ++ r
-flat-snoc [] r = append-nil r
-flat-snoc (x ∷ rs) r = ap (λ (l : List ℕ). x ++ l) (flat-snoc rs r) ∙ sym (append-assoc x (flat rs) r)
+-- what is in front of a list that was found takes nothing from it
+onward-found : (xs : List (List ℕ)) (o : Out (List (List ℕ))) → Found (onward xs o) → Found o
+onward-found xs (got ys n) f = (ys, n, refl)
+onward-found xs (bad r) (rs, m, e) = never (cc)
 
-pub record Listing (count : ℕ) (cs : List Column) (s : List ℕ) (at : ℕ) (d₀ d old : List ℕ) (p i : ℕ) : Type 0 where
-  pub five : length cs ≡ 5
-  pub done : List (List ℕ)
+-- the rows `done` are read, and the rest of the list stands from p on, after the row `old`
+pub record Listing (count : ℕ) (cs : List Column) (s : List ℕ) (at : ℕ) (done : List (List ℕ)) (old : List ℕ) (p i : ℕ) : Type 0 where
   pub many : length done ≡ i
   pub up : i ≤ count
-  pub same : rowsAt count [] cs s at ≡ onward done (rowsAt (count - i) (oldOf i old) cs s p)
-  pub held : d ≡ sets d₀ 0 (flat done)
-  pub wide : length (flat done) ≡ 5 * i
+  pub same : rowsAt count [] cs s at ≡ onward done (rowsAt (count - i) old cs s p)
 
-module _ {count : ℕ} {cs : List Column} {s : List ℕ} {at : ℕ} {d₀ : List ℕ} where
-  pub list-start : {old : List ℕ} → length cs ≡ 5 → Listing count cs s at d₀ d₀ old at 0
-  list-start five =
-      record {
-        five = five;
-        done = [];
-        many = refl;
-        up = omega arith;
-        same = rw (sub-zero count) (onward-none (rowsAt count [] cs s at));
-        held = refl;
-        wide = refl;
-      }
+module _ {count : ℕ} {cs : List Column} {s : List ℕ} {at : ℕ} where
+  pub list-start : Listing count cs s at [] [] at 0
+  list-start = record { many = refl; up = omega arith; same = rw (sub-zero count) (onward-none (rowsAt count [] cs s at)) }
 
-  module _ {d old : List ℕ} {p i : ℕ} (f : Listing count cs s at d₀ d old p i) where
-    pub list-long : length d ≡ length d₀
-    list-long = ap length (f .held) ∙ length-sets d₀ 0 (flat (f .done))
-
+  module _ {done : List (List ℕ)} {old : List ℕ} {p i : ℕ} (f : Listing count cs s at done old p i) where
     module _ (h : i < count) where
       left : count - i ≡ suc (count - (i + 1))
       left = omega arith
 
-      pub list-more : {d′ r : List ℕ} {n : ℕ} → nextRow (oldOf i old) cs s p ≡ got r n → d′ ≡ sets d (5 * i) r
-          → Listing count cs s at d₀ d′ r n (i + 1)
-      list-more {d′} {r} {n} e put =
-          let wide : length r ≡ 5 = row-long cs s p r n (next-got (oldOf i old) cs s p r n e .0) ∙ f .five in
+      pub list-more : {r : List ℕ} {n : ℕ} → nextRow old cs s p ≡ got r n → Listing count cs s at (done ++ (r ∷ [])) r n (i + 1)
+      list-more {r} {n} e =
           record {
-            five = f .five;
-            done = f .done ++ (r ∷ []);
-            many = length-append (f .done) (r ∷ []) ∙ ap (λ (m : ℕ). m + 1) (f .many);
+            many = length-append done (r ∷ []) ∙ ap (λ (m : ℕ). m + 1) (f .many);
             up = omega arith;
-            same =
-                f .same
-                ∙ rw (left, rows-step (count - (i + 1)) (oldOf i old) cs s p e, old-some (i + 1) r (λ z. omega arith))
-                (onward-push (f .done) r (rowsAt (count - (i + 1)) r cs s n));
-            held = put ∙ rw (flat-snoc (f .done) r, f .held, ← f .wide, ← sets-append (flat (f .done)) r d₀ 0, zero-add);
-            wide = rw (flat-snoc (f .done) r, length-append) (omega (arith, f .wide));
+            same = f .same ∙ rw (left, rows-step (count - (i + 1)) old cs s p e) (onward-push done r (rowsAt (count - (i + 1)) r cs s n));
           }
 
-      pub list-bad : {x : Refusal} {a : ListRead} → nextRow (oldOf i old) cs s p ≡ bad x → a ≡ listOf (bad x)
-          → (a ≡ listOf (rowsAt count [] cs s at)) × ListKept (rowsAt count [] cs s at) d₀ d
-      list-bad {x} e q =
-          let b : rowsAt count [] cs s at ≡ bad x = f .same ∙ rw (left, rows-stop (count - (i + 1)) (oldOf i old) cs s p e) in
-          rw b (q, list-long)
+      list-stop : {x : Refusal} → nextRow old cs s p ≡ bad x → rowsAt count [] cs s at ≡ bad x
+      list-stop e = f .same ∙ rw (left, rows-stop (count - (i + 1)) old cs s p e)
 
-    pub list-end : count ≤ i → (record { count = count; end = Past p } ≡ listOf (rowsAt count [] cs s at)) × ListKept (rowsAt count [] cs s at) d₀ d
-    list-end h =
+      -- where the whole list is found, so is its next row
+      pub next-found : Found (rowsAt count [] cs s at) → (r : List ℕ) × (n : ℕ) × (nextRow old cs s p ≡ got r n)
+      next-found w =
+          let rest : Found (rowsAt (count - i) old cs s p) = onward-found done _ (rw (f .same) at w) in
+          rows-first (count - (i + 1)) old cs s p (rw left at rest)
+
+    pub list-all : count ≤ i → rowsAt count [] cs s at ≡ got done p
+    list-all h =
         let none : count - i ≡ 0 = omega arith in
-        let all : length (f .done) ≡ count = omega (arith, f .many, f .up) in
-        let b : rowsAt count [] cs s at ≡ got (f .done) p = f .same ∙ rw (none, rows-none, append-nil) in
-        rw b (rw all, f .held)
+        f .same ∙ rw (none, rows-none, append-nil)
+
+-- ---- the loop that finds a list: the row before stands beside its number
+
+pub record Finding (count : ℕ) (cs : List Column) (s : List ℕ) (at : ℕ) (old : List ℕ) (p i : ℕ) : Type 0 where
+  pub done : List (List ℕ)
+  pub listing : Listing count cs s at done (oldOf i old) p i
+
+module _ {count : ℕ} {cs : List Column} {s : List ℕ} {at : ℕ} where
+  pub find-start : {old : List ℕ} → Finding count cs s at old at 0
+  find-start = record { done = []; listing = list-start }
+
+  module _ {old : List ℕ} {p i : ℕ} (f : Finding count cs s at old p i) where
+    pub find-more : i < count → {r : List ℕ} {n : ℕ} → nextRow (oldOf i old) cs s p ≡ got r n → Finding count cs s at r n (i + 1)
+    find-more h {r} e =
+        record { done = f .done ++ (r ∷ []); listing = rw (old-some (i + 1) r (λ z. omega arith)) (list-more (f .listing) h e) }
+
+    pub find-bad : i < count → {x : Refusal} {a : ListRead} → nextRow (oldOf i old) cs s p ≡ bad x → a ≡ listOf (bad x)
+        → a ≡ listOf (rowsAt count [] cs s at)
+    find-bad h e q = rw (list-stop (f .listing) h e) q
+
+    pub find-end : count ≤ i → record { count = count; end = Past p } ≡ listOf (rowsAt count [] cs s at)
+    find-end h =
+        let all : length (f .done) ≡ count = omega (arith, f .listing .many, f .listing .up) in
+        rw (list-all (f .listing) h) (rw all)
 
 -- ---- the count
 

@@ -1,15 +1,16 @@
-// Lists of rows: one reader for the four lists.
+// Lists of rows: one reader for the four lists. A list is found first, with nothing stored, and then kept in memory.
 ghost use mathlib.Core.Path.{_≡_};
 ghost use mathlib.Core.List.{[]};
 ghost use Prim.Native.Nat.{_+_, _*_, _≤_};
-ghost use lib.ListN.{length, replicate};
+ghost use lib.ListN.{length};
 ghost use lib.Seq.{sets};
 ghost use Rattle.numbers.specs.Reading.{bad};
 ghost use Rattle.cells.specs.Answers.{rowOf};
 ghost use Rattle.lists.specs.Order.{below};
 ghost use Rattle.lists.specs.Lists.{nextRow, rowsAt, listAt};
-ghost use Rattle.lists.specs.ListAnswers.{listOf, listAfter, listHeld};
-ghost use Rattle.lists.specs.Stages.{oldOf, ListKept};
+ghost use Rattle.lists.specs.ListAnswers.{listOf, listAfter};
+ghost use Rattle.lists.specs.Keeping.{Found, listHeld};
+ghost use Rattle.lists.specs.Stages.{oldOf};
 use cells::columns::Column;
 use cells::row::RowRead;
 use cells::row::no_row;
@@ -80,23 +81,11 @@ fn next_row(src: &[u8], at: usize, columns: [Column; 5], i: usize, old: [u8; 5])
     }
 }
 
-// Five cells into dst from `base` on.
-fn store(dst: &mut [u8], base: usize, cells: [u8; 5])
-    requires { ⌜ base + 5 ≤ length (now dst) ⌝ }
-    ensures { λ _. ⌜ now (dst .exit) ≡ sets (now (dst .entry)) base cells ⌝ }
-{
-    dst[base] = cells[0];
-    dst[base + 1] = cells[1];
-    dst[base + 2] = cells[2];
-    dst[base + 3] = cells[3];
-    dst[base + 4] = cells[4];
-}
+// ---- finding a list
 
-// `count` rows from `at` on, each above the one before, into dst, five bytes a row.
-fn rows(src: &[u8], at: usize, count: usize, columns: [Column; 5], dst: &mut [u8]) -> ListRead
-    requires { ⌜ 5 * count ≤ length (now dst) ⌝ }
-    ensures { λ r. ⌜ (r ≡ listOf (rowsAt count [] columns (now (src .entry)) at))
-        × ListKept (rowsAt count [] columns (now (src .entry)) at) (now (dst .entry)) (now (dst .exit)) ⌝ }
+// `count` rows from `at` on, each above the one before.
+fn find_rows(src: &[u8], at: usize, count: usize, columns: [Column; 5]) -> ListRead
+    ensures { λ r. ⌜ r ≡ listOf (rowsAt count [] columns (now (src .entry)) at) ⌝ }
 {
     let mut old = [0u8; 5];
     let mut p = at;
@@ -107,7 +96,6 @@ fn rows(src: &[u8], at: usize, count: usize, columns: [Column; 5], dst: &mut [u8
         let end = read.end;
         match end {
             End::Past { next } => {
-                store(dst, 5 * i, cells);
                 old = cells;
                 p = next;
             }
@@ -124,55 +112,81 @@ fn rows(src: &[u8], at: usize, count: usize, columns: [Column; 5], dst: &mut [u8
 }
 
 // The list of at most `most` rows at `at`: the count, then the rows.
-fn list(src: &[u8], at: usize, most: u32, columns: [Column; 5], dst: &mut [u8]) -> ListRead
-    requires { ⌜ (most ≤ 1024) × (5 * most ≤ length (now dst)) ⌝ }
-    ensures { λ r. ⌜ (r ≡ listOf (listAt most columns (now (src .entry)) at))
-        × ListKept (listAt most columns (now (src .entry)) at) (now (dst .entry)) (now (dst .exit)) ⌝ }
+fn find_at(src: &[u8], at: usize, most: u16, columns: [Column; 5]) -> ListRead
+    ensures { λ r. ⌜ r ≡ listOf (listAt most columns (now (src .entry)) at) ⌝ }
 {
-    match reader::fields::field(src, at, 0, most + 1) {
-        Read::Value { value, next } => rows(src, next, value as usize, columns, dst),
+    match reader::fields::field(src, at, 0, most as u32 + 1) {
+        Read::Value { value, next } => find_rows(src, next, value as usize, columns),
         Read::Refused { refusal } => no_list(refusal),
     }
 }
 
-// Zeros in every byte.
-pub fn wipe(dst: &mut [u8])
-    ensures { λ _. ⌜ now (dst .exit) ≡ replicate (length (now (dst .entry))) 0 ⌝ }
+// The list of at most `most` rows after a part of the file: where that was refused, so is the list.
+pub fn find_list(src: &[u8], before: End, most: u16, columns: [Column; 5]) -> ListRead
+    ensures { λ r. ⌜ r ≡ listOf (listAfter before most columns (now (src .entry))) ⌝ }
 {
+    match before {
+        End::Past { next } => find_at(src, next, most, columns),
+        End::Refused { refusal } => no_list(refusal),
+    }
+}
+
+// ---- keeping a list that was found
+
+// Five cells into dst from `base` on.
+fn store(dst: &mut [u8], base: usize, cells: [u8; 5])
+    requires { ⌜ base + 5 ≤ length (now dst) ⌝ }
+    ensures { λ _. ⌜ now (dst .exit) ≡ sets (now (dst .entry)) base cells ⌝ }
+{
+    dst[base] = cells[0];
+    dst[base + 1] = cells[1];
+    dst[base + 2] = cells[2];
+    dst[base + 3] = cells[3];
+    dst[base + 4] = cells[4];
+}
+
+// `count` rows from `at` on, which were found, into dst, five bytes a row. So no row is refused, and none is compared.
+fn keep_rows(src: &[u8], at: usize, count: usize, columns: [Column; 5], dst: &mut [u8])
+    requires { ⌜ Found (rowsAt count [] columns (now src) at) × (5 * count ≤ length (now dst)) ⌝ }
+    ensures { λ _. ⌜ now (dst .exit) ≡ listHeld (rowsAt count [] columns (now (src .entry)) at) (now (dst .entry)) ⌝ }
+{
+    let mut p = at;
     let mut i = 0;
-    while i < dst.len() {
-        dst[i] = 0;
+    while i < count {
+        let read = row(src, p, columns);
+        let cells = read.cells;
+        let end = read.end;
+        match end {
+            End::Past { next } => {
+                store(dst, 5 * i, cells);
+                p = next;
+            }
+            End::Refused { refusal: _ } => {
+                return;
+            }
+        }
         i += 1;
     }
 }
 
-// The list after a part of the file: where that was refused, so is the list. Beside a refusal dst is all 0.
-pub fn list_after(
-    src: &[u8],
-    before: End,
-    most: u32,
-    columns: [Column; 5],
-    dst: &mut [u8],
-) -> ListRead
-    requires { ⌜ (most ≤ 1024) × (5 * most ≤ length (now dst)) ⌝ }
-    ensures { λ r. ⌜ (r ≡ listOf (listAfter before most columns (now (src .entry))))
-        × (now (dst .exit) ≡ listHeld (listAfter before most columns (now (src .entry))) (now (dst .entry))) ⌝ }
+// The list of at most `most` rows at `at`, which was found, into dst.
+fn keep_at(src: &[u8], at: usize, most: u16, columns: [Column; 5], dst: &mut [u8])
+    requires { ⌜ Found (listAt most columns (now src) at) × (5 * most ≤ length (now dst)) ⌝ }
+    ensures { λ _. ⌜ now (dst .exit) ≡ listHeld (listAt most columns (now (src .entry)) at) (now (dst .entry)) ⌝ }
+{
+    match reader::fields::field(src, at, 0, most as u32 + 1) {
+        Read::Value { value, next } => keep_rows(src, next, value as usize, columns, dst),
+        Read::Refused { refusal: _ } => {}
+    }
+}
+
+// The list after a part of the file, which was found, into dst: its rows from the start on, five bytes a row.
+pub fn keep_list(src: &[u8], before: End, most: u16, columns: [Column; 5], dst: &mut [u8])
+    requires { ⌜ Found (listAfter before most columns (now src)) × (5 * most ≤ length (now dst)) ⌝ }
+    ensures { λ _. ⌜ now (dst .exit) ≡ listHeld (listAfter before most columns (now (src .entry))) (now (dst .entry)) ⌝ }
 {
     match before {
-        End::Past { next } => {
-            let read = list(src, next, most, columns, dst);
-            let end = read.end;
-            match end {
-                End::Past { next: _ } => read,
-                End::Refused { refusal } => {
-                    wipe(dst);
-                    no_list(refusal)
-                }
-            }
-        }
-        End::Refused { refusal } => {
-            wipe(dst);
-            no_list(refusal)
-        }
+        End::Past { next } => keep_at(src, next, most, columns, dst),
+        End::Refused { refusal: _ } => {}
     }
 }

@@ -2,6 +2,7 @@
 --     groups-none, -cut, -short, -last, -more    what `groupsAt` gives, one law for each way that it goes
 --     Accepted                                   what the bytes of a number are, said without the order of the tests
 --     accepted, accepted-groups                  `groupsAt` gives a value exactly where the bytes are those of a number
+--     number-groups, -small                      a number is four groups at most, and a byte below 128 is one by itself
 --     number-past, number-below                  a number that was read ends within the bytes, and is below 2^28
 -- Each property of a number is an induction on `Accepted`.
 -- Assumes nothing.
@@ -103,6 +104,10 @@ module _ (s : List ℕ) where
 pub number-groups : (s : List ℕ) (at : ℕ) {r : Grouped} → r ≡ groupsAt 4 0 s at → numberAt s at ≡ outOf (length s) at r
 unfolding numberAt
 number-groups s at e = rw e
+
+-- a byte below 128 is a number by itself
+pub number-small : (s : List ℕ) (at : ℕ) → at < length s → getD s at 0 < 128 → numberAt s at ≡ got (getD s at 0) (at + 1)
+number-small s at h l = number-groups s at (sym (groups-last 4 3 0 s at refl h l (omega arith)))
 
 number-value : (length at v n : ℕ) (r : Grouped) → outOf length at r ≡ got v n → r ≡ Value v n
 number-value length at v n (Value w m) e = cc

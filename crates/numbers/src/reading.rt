@@ -48,10 +48,17 @@ fn groups(src: &[u8], at: usize, left: u32, least: u32) -> Grouped
     }
 }
 
-// The number that stands at `at`.
+// The number that stands at `at`. A byte below 128 is a number by itself, and most numbers of a table are such: they are told first.
 pub fn number(src: &[u8], at: usize) -> Read
     ensures { λ r. ⌜ r ≡ readOf (numberAt (now (src .entry)) at) ⌝ }
 {
+    if at < src.len() {
+        let b = src[at] as u32;
+        if b < 128 {
+            let next = at + 1;
+            return Read::Value { value: b, next };
+        }
+    }
     match groups(src, at, 4, 0) {
         Grouped::Value { value, next } => Read::Value { value, next },
         Grouped::Cut => Read::Refused {

@@ -71,7 +71,11 @@ pub fn put_mark(mem: &mut [u8], p: usize)
 pub fn clear(mem: &mut [u8])
     ensures { λ _. ⌜ now (mem .exit) ≡ replicate (length (now (mem .entry))) 0 ⌝ }
 {
-    lists::list::wipe(mem);
+    let mut i = 0;
+    while i < mem.len() {
+        mem[i] = 0;
+        i += 1;
+    }
 }
 
 // Takes the first w marks off, and leaves the others as they are.
