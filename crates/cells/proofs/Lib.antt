@@ -5,6 +5,7 @@
 --   SoFarLaws     the row that is being read through a reader
 --   RowFits       a row that was read fits its columns
 --   StageLaws     what the answer of reading a row tells
+--   Values        columns, numbers, rows and rows so far as values in a walk
 --   Unique        two results that a contract allows are equal
 pub mod RowMemory
 pub mod RowLaws
@@ -12,4 +13,5 @@ pub mod DueLaws
 pub mod SoFarLaws
 pub mod RowFits
 pub mod StageLaws
+pub mod Values
 pub mod Unique

@@ -21,7 +21,7 @@ pub struct RowRead {
 }
 
 // A row that is being read: what stands of it, and the next column that is there; 5 where none is, and where the row is refused.
-struct SoFar {
+pub(crate) struct SoFar {
     row: RowRead,
     due: usize,
 }

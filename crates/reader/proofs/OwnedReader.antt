@@ -133,7 +133,7 @@ abbrev pub Cell : Reader → ℕ → ℕ → Fml
 Cell r b o = fat fullShare (T′.mir erased) b o (lowered r)
 
 -- what the borrow of a reader holds, under the name γ
-abbrev Lies : Lft → ℕ → ℕ → GName → Fml
+abbrev pub Lies : Lft → ℕ → ℕ → GName → Fml
 Lies κ b o γ = Body (memory (R κ)) b o γ
 
 module _ {M : Type 1} {𝓤 : URA M} {H : Heap 𝓤} {A : Atoms 𝓤} {K : Type 0} {W : Given 𝓤 H A} {Γ : List (Item 𝓤)} {G : Goal 𝓤 H} where
@@ -181,7 +181,7 @@ other q = PosShare·right q
 
 module _ {M : Type 1} (𝓤 : URA M) (A : Atoms 𝓤) (κ : Lft) (q : Share) where
   -- the token of κ; the tokens of the loan and of κ, for half of it each
-  abbrev Before : SProp 𝓤
+  abbrev pub Before : SProp 𝓤
   Before = toks 𝓤 A 1 (κ, tt) (q, tt)
 
   abbrev Meanwhile : ℕ → SProp 𝓤
