@@ -84,7 +84,7 @@ module _ {cs : List Column} {r₀ r : Reader} {cells : List ℕ} where
   skips : {j : ℕ} → Filling cs r₀ cells r j → j < 5 → columnAt cs j ≡ Absent → Filling cs r₀ cells r (j + 1)
   skips {j} f h e =
       let zero-there : getD cells j 0 ≡ 0 =
-          rw (f .held) (sets-past (f .done) noCells 0 j (omega (arith, f .many)) ∙ getD-replicate 5 j 0 0 h) in
+      rw (f .held) (sets-past (f .done) noCells 0 j (omega (arith, f .many)) ∙ getD-replicate 5 j 0 0 h) in
       let same : set cells j 0 ≡ cells = rw (zero-there) at (set-getD cells j 0) in
       let more = fill-more f h {v = 0} {n = r .at} (rw e (absent-cell (now (r .src)) (r .at))) in
       rw (e, same) at more

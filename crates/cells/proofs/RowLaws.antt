@@ -96,7 +96,7 @@ row-none : (s : List ℕ) (p : ℕ) → rowAt [] s p ≡ got [] p
 unfolding rowAt
 row-none s p = refl
 
-past-step : (c : Column) (cs : List Column) (r : Reader) {v n : ℕ} → cellAt c (now (r .src)) (r .at) ≡ got v n
+pub past-step : (c : Column) (cs : List Column) (r : Reader) {v n : ℕ} → cellAt c (now (r .src)) (r .at) ≡ got v n
     → pastRow (c ∷ cs) r ≡ pastRow cs (pastCell c r)
 unfolding pastRow
 past-step c cs r e = rw e
@@ -105,7 +105,7 @@ past-stop : (c : Column) (cs : List Column) (r : Reader) {x : Refusal} → cellA
 unfolding pastRow
 past-stop c cs r e = rw e
 
-past-none : (r : Reader) → pastRow [] r ≡ r
+pub past-none : (r : Reader) → pastRow [] r ≡ r
 unfolding pastRow
 past-none r = refl
 

@@ -119,9 +119,13 @@ abbrev pub by-bytes-and-columns : Parameters {n = 1}
     (shrSliceOf (0 ∷ []) tt (plain (λ _. u8)) ∷ plain (λ _. usize) ∷ plain (λ _. Columns) ∷ []) (yes, (yes, (yes, tt)))
 by-bytes-and-columns = record {
   stay = (stay-none-slice (0 ∷ []) tt (plain (λ _. u8)) yes, (stay-none (λ _. usize) yes, (stay-none (λ _. Columns) yes, tt)));
-  go = λ 𝓤 H A W.
-      (goes-none-slice 𝓤 H A W 1 (0 ∷ []) tt (plain (λ _. u8)) yes, (goes-none 𝓤 H A W 1 (λ _. usize) yes (λ κs x f. refl),
-      (goes-none 𝓤 H A W 1 (λ _. Columns) yes (λ κs x f. refl), tt)));
+  go = λ 𝓤 H A W. (
+    goes-none-slice 𝓤 H A W 1 (0 ∷ []) tt (plain (λ _. u8)) yes,
+    (
+      goes-none 𝓤 H A W 1 (λ _. usize) yes (λ κs x f. refl),
+      (goes-none 𝓤 H A W 1 (λ _. Columns) yes (λ κs x f. refl), tt),
+    ),
+  );
   spell = λ κs. (slice-vals, (uint-vals w64, (columns-vals, tt)));
   tell = λ κs. (shr-slice-tells (named 0) (κs .0) u8, (uint-tells w64, (columns-tell, tt)));
 }

@@ -29,7 +29,7 @@ enum-told : tie.Need-enum-told Inv-loop μ-loop
 enum-told c = search needs
 
 returns : tie.Need-returns Inv-loop μ-loop
-returns c = 
+returns c =
     let (five, up, same) = c .before .before .before .before .loop .inv in
     sym (same ∙ due-here _ _ (omega (arith, five)) (subst There (sym (c .enum-told .given .1)) (there-within _ _)))
 
@@ -37,7 +37,7 @@ enum-told-2 : tie.Need-enum-told-2 Inv-loop μ-loop
 enum-told-2 c = search needs
 
 returns-2 : tie.Need-returns-2 Inv-loop μ-loop
-returns-2 c = 
+returns-2 c =
     let (five, up, same) = c .before .before .before .before .loop .inv in
     sym (same ∙ due-here _ _ (omega (arith, five)) (subst There (sym (c .enum-told2 .given .1)) (there-below _)))
 
@@ -51,12 +51,12 @@ loop-less : tie.Need-loop-less Inv-loop μ-loop
 loop-less c = omega arith
 
 loop-again : tie.Need-loop-again Inv-loop μ-loop
-loop-again c = 
+loop-again c =
     let (five, up, same) = c .before .before .before .before .loop .inv in
     (five, omega arith, same ∙ due-skip _ _ (omega (arith, five)) (c .enum-told3 .given .1))
 
 returns-3 : tie.Need-returns-3 Inv-loop μ-loop
-returns-3 c = 
+returns-3 c =
     let (five, up, same) = c .before .loop .inv in
     sym (same ∙ due-end _ _ (omega (arith, five, c .loop-test .left)) ∙ omega (arith, up, c .loop-test .left))
 
