@@ -1,16 +1,16 @@
 -- The column that is due: the first from j on that is there.
 --     due-here, due-skip, due-end    column j is there; it is not; there is none
---     due-up, due-most               it is not before j, and not past the last
+--     due-up                         it is not before j
 --     due-there                      no column in front of the rest from there on is absent
 --     fill-due                       a row whose cells up to column j are read is read up to the column that is due
 use mathlib.Core.Path.{_≡_, refl, sym, ap, _∙_, subst}
-use mathlib.Core.List.{List, [], _∷_, _++_}
-use Prim.Native.Nat.{ℕ, zero, suc, _+_, _≤_, _<_}
+use mathlib.Core.List.{List, [], _∷_}
+use Prim.Native.Nat.{ℕ, suc, _+_, _≤_, _<_}
 use native.Mathlib.Omega.{arith}
-use native.Mathlib.Nat.{zero-add, add-zero}
+use native.Mathlib.Nat.{add-zero}
 use native.Mathlib.Numerals.{add-one}
 use lib.ListN.{length, getD, set, drop, length-drop, drop-of-length-le, getD-replicate}
-use lib.Seq.{sets, drop-drop, set-getD}
+use lib.Seq.{drop-drop, set-getD}
 use denote.Ref.{now}
 use Rattle.numbers.specs.Reading.{got}
 use Rattle.reader.specs.declared.Reader.{Reader}
@@ -51,13 +51,6 @@ module _ (cs : List Column) where
   unfolding dueFrom
   due-up j = omega arith
 
-absent-most : (cs : List Column) → absent cs ≤ length cs
-unfolding absent
-absent-most [] = omega arith
-absent-most (Within low most ∷ cs) = omega arith
-absent-most (Below end ∷ cs) = omega arith
-absent-most (Absent ∷ cs) = omega (arith, absent-most cs)
-
 absent-gone : (cs : List Column) → absent (drop (absent cs) cs) ≡ 0
 unfolding absent
 absent-gone [] = refl
@@ -66,10 +59,6 @@ absent-gone (Below end ∷ cs) = refl
 absent-gone (Absent ∷ cs) = absent-gone cs
 
 module _ (cs : List Column) (j : ℕ) where
-  pub due-most : j ≤ length cs → dueFrom cs j ≤ length cs
-  unfolding dueFrom
-  due-most h = omega (arith, absent-most (drop j cs), length-drop j cs)
-
   pub due-there : absent (drop (dueFrom cs j) cs) ≡ 0
   unfolding dueFrom
   due-there = rw (← drop-drop (absent (drop j cs)) j cs) (absent-gone (drop j cs))

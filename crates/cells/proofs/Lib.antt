@@ -6,7 +6,7 @@
 --   RowFits       a row that was read fits its columns
 --   StageLaws     what the answer of reading a row tells
 --   Values        columns, numbers, rows and rows so far as values in a walk
---   RowCalls      a call of `next_row` in a walk
+--   RowCalls      a call of `row_through` in a walk
 --   Unique        two results that a contract allows are equal
 pub mod RowMemory
 pub mod RowLaws

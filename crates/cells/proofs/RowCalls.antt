@@ -1,5 +1,5 @@
--- A call of `next_row` in a walk: a reader in memory is lent to it, and comes back past the row. All that is known of `next_row` is that it meets its
--- contract.
+-- A call of `row_through` in a walk: a reader in memory is lent to it, and comes back past the row. All that is known of `row_through` is that it
+-- meets its contract.
 use mathlib.Core.Path.{_≡_}
 use Prim.Native.Nat.{ℕ}
 use mathlib.Core.List.{List, [], _∷_}
@@ -24,7 +24,7 @@ use Rattle.cells.specs.Answers.{rowOf}
 use Rattle.cells.specs.Passing.{pastRow}
 use Rattle.cells.proofs.Values.{Columns, columns-val, columns-makes}
 use Rattle.cells.proofs.row.RowRead as Row
-use Rattle.cells.proofs.row.next_row as next-row
+use Rattle.cells.proofs.row.row_through as row-through
 
 -- the reader r at (b, o), whose machine value is u
 module _ {M : Type 1} {𝓤 : URA M} (g : Here 𝓤) (κ : Lft) (q : Share) (r : Reader) (u : Val) (b o : ℕ) (cs : List Column) where
@@ -32,8 +32,8 @@ module _ {M : Type 1} {𝓤 : URA M} (g : Here 𝓤) (κ : Lft) (q : Share) (r :
 
   -- the operands are read with the reader lent: the entry that the lender keeps stands in place of its memory and its token
   pub reads-row : {K : Type 0} {Γ : List (Item 𝓤)} {E : wp.Env 𝓤 H} {f : Name} {xs : List Operand} {p : Post 𝓤 H} {d : Place} {rest : Code}
-      → K → Meets 𝓤 H A next-row.signature (C f) (next-row.spec 𝓤 H A mem run) → Is Columns cs (columns-val cs ∷ [])
-      → ((a : ℕ) (δ : GName) → Opds K W (raw (tripleOf 𝓤 H A next-row.signature (next-row.spec 𝓤 H A mem run) .pre (
+      → K → Meets 𝓤 H A row-through.signature (C f) (row-through.spec 𝓤 H A mem run) → Is Columns cs (columns-val cs ∷ [])
+      → ((a : ℕ) (δ : GName) → Opds K W (raw (tripleOf 𝓤 H A row-through.signature (row-through.spec 𝓤 H A mem run) .pre (
         (
           (loan a κ, (κ, tt)),
           (one q, (other q, tt)),
@@ -50,10 +50,10 @@ module _ {M : Type 1} {𝓤 : URA M} (g : Here 𝓤) (κ : Lft) (q : Share) (r :
       lends-reader t tt κ q r u b o (λ a δ.
       nothing t $ owned t Columns (Is Columns) (columns-makes 𝓤 H A W) cs (columns-val cs ∷ []) is-cs $ fjoin t $
       move t (1 ∷ 0 ∷ []) $ fjoin t $ move t (1 ∷ 0 ∷ []) $
-      asks g next-row.ended (next-row.clauses 𝓤 H A mem run) t known (loan a κ, (κ, tt)) (one q, (other q, tt)) (meet-⊑-right (a ∷ []) κ, tt)
+      asks g row-through.ended (row-through.clauses 𝓤 H A mem run) t known (loan a κ, (κ, tt)) (one q, (other q, tt)) (meet-⊑-right (a ∷ []) κ, tt)
       (lent-at b o δ r, (cs, tt)) (vptr b o ∷ [], (columns-val cs ∷ [], tt)) tt (id⊢ 𝓤 _)
-      (λ (x : RowRead) (ws : Reader × (Unit {0} × Unit {0})). (x ≡ rowOf (rowAt cs (now (r .src)) (r .at))) × (ws .0 ≡ pastRow cs r)) (λ x ws. id⊢ 𝓤 _)
-      (os a δ) (λ v x ws e.
+      (λ (x : RowRead) (ws : Reader × (Unit {0} × Unit {0})). (x ≡ rowOf (rowAt cs (now (r .src)) (r .at))) × (ws .0 ≡ pastRow cs r))
+      (λ x ws. id⊢ 𝓤 _) (os a δ) (λ v x ws e.
       -- [what the answer owns; the tokens; the last values; what the lender keeps; …]
       facts t Row.the-row (Is Row.the-row) (shows 𝓤 H A Row.the-row) x (v ∷ []) (λ is-x.
       move t (1 ∷ []) $ fsplit t $ move t (0 ∷ 2 ∷ 3 ∷ []) $ takes-back t tt κ q a b o δ (ws .0) $ move t (3 ∷ []) $ drop t $

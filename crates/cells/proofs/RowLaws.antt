@@ -17,7 +17,6 @@ use Rattle.numbers.specs.declared.refusals.Refusal.{Refusal}
 use Rattle.numbers.specs.declared.reading.Read.{Read}
 use Rattle.numbers.specs.declared.reading.Read.the-variants.{Value, Refused}
 use Rattle.numbers.specs.Reading.{Out, got, bad, numberAt, fieldAt, readOf}
-use Rattle.numbers.proofs.ReadingLaws.{never}
 use Rattle.numbers.proofs.PutLaws.{sets-append}
 use Rattle.reader.specs.declared.Reader.{Reader}
 use Rattle.reader.specs.Places.{pastOf}

@@ -1,15 +1,15 @@
--- The row that is being read through a reader, as a turn of the loop finds it: either all columns before the one that is due are read, and that one is
--- there; or a cell was refused, and no column is due.
+-- The row that is being read through a reader, as a turn of the loop finds it. Either all columns before the one that is due are read, and that
+-- one is there; or a cell was refused, and no column is due.
 --     Going          that, of the columns, the reader at the start, the reader now and the row so far
 --     going-start    before the first turn
 --     going-on       a turn reads the number where the reader stands, and moves the reader on
 --     going-end      where no column is due, the row is what the columns ask for, and the reader is past it
 --     due-less       a turn brings the loop nearer to its end
-use mathlib.Core.Path.{_≡_, refl, sym, ap, _∙_, subst}
+use mathlib.Core.Path.{_≡_, refl, sym, ap, subst}
 use mathlib.Core.List.{List, _∷_}
 use Prim.Native.Nat.{ℕ, suc, _+_, _-_, _≤_, _<_}
 use native.Mathlib.Omega.{arith}
-use lib.ListN.{length, getD, set, drop}
+use lib.ListN.{length, set, drop}
 use denote.Ref.{now}
 use Rattle.numbers.specs.declared.refusals.Refusal.{Refusal}
 use Rattle.numbers.specs.declared.reading.Read.{Read}
@@ -26,7 +26,7 @@ use Rattle.cells.specs.Answers.{rowOf}
 use Rattle.cells.specs.Passing.{pastCell, pastRow}
 use Rattle.cells.specs.Stages.{cellOf, absent, dueFrom, columnAt, begunAt, withCell}
 use Rattle.cells.proofs.RowLaws.{to, cell-read, cell-past, Filling, next-column, fill-start, fill-more, fill-bad, fill-end}
-use Rattle.cells.proofs.DueLaws.{due-up, due-most, due-there, fill-due}
+use Rattle.cells.proofs.DueLaws.{due-up, due-there, fill-due}
 
 -- a row so far, by its parts
 abbrev at-column : List ℕ → ℕ → ℕ → SoFar
@@ -70,8 +70,8 @@ module _ {cs : List Column} {r₀ : Reader} where
 
     goes : (o : Out ℕ) → cellAt c (now (r .src)) (r .at) ≡ o → Going cs r₀ (pastCell c r) (withCell (at-column cells (r .at) j) cs (readOf o))
     goes (got v n) e =
-        subst (λ (p : ℕ). Going cs r₀ (pastCell c r) (at-column (set cells j v) p (dueFrom cs (j + 1)))) (ap (λ (x : Reader). x .at) (cell-past c r e))
-        (due-filled (fill-more f h e))
+        let place : pastCell c r .at ≡ n = ap (λ (x : Reader). x .at) (cell-past c r e) in
+        subst (λ (p : ℕ). Going cs r₀ (pastCell c r) (at-column (set cells j v) p (dueFrom cs (j + 1)))) place (due-filled (fill-more f h e))
     goes (bad x) e = let (row, past) = fill-bad f h e in refused row past
 
     turn : Going cs r₀ (movedOn r) (after-turn cs r (at-column cells (r .at) j))

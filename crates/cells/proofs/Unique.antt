@@ -33,7 +33,7 @@ use Rattle.cells.proofs.columns.error_columns.Reads as error-columns
 use Rattle.cells.proofs.columns.error_columns.Kinds as error-columns-kinds
 use Rattle.cells.proofs.row.no_row.Reads as no-row
 use Rattle.cells.proofs.row.no_row.Kinds as no-row-kinds
-use Rattle.cells.proofs.row.next_row as next-row
+use Rattle.cells.proofs.row.row_through as row-through
 use Rattle.cells.proofs.row.row.Reads as row
 use Rattle.cells.proofs.row.row.Kinds as row-kinds
 use Rattle.cells.proofs.row.row_after.Reads as row-after
@@ -67,16 +67,16 @@ row-after-fixes κs a x x′ s s′ = same
 
 -- ---- over a reader: what the contract says, in its text
 
--- the answer of `next_row`, and the reader at exit
+-- the answer of `row_through`, and the reader at exit
 abbrev pub RowReadOn : List Column → Reader → RowRead → Reader → Type 0
 RowReadOn cs r x r′ = (x ≡ rowOf (rowAt cs (now (r .src)) (r .at))) × (r′ ≡ pastRow cs r)
 
-pub next-row-unique : (cs : List Column) (r : Reader) (x x′ : RowRead) (end end′ : Reader)
+pub row-through-unique : (cs : List Column) (r : Reader) (x x′ : RowRead) (end end′ : Reader)
     → RowReadOn cs r x end → RowReadOn cs r x′ end′ → (x ≡ x′) × (end ≡ end′)
-next-row-unique cs r x x′ end end′ p q = (same (p .0) (q .0), same (p .1) (q .1))
+row-through-unique cs r x x′ end end′ p q = (same (p .0) (q .0), same (p .1) (q .1))
 
 -- and this is the contract: the clause that the prover reads from the source is that fact
 module _ {M : Type 1} (𝓤 : URA M) (H : Heap 𝓤) (A : Atoms 𝓤) (mem : Memory → SProp 𝓤) (run : Routine → Fun 𝓤) where
-  pub next-row-says : (κs : Lfts 2) (a : Args next-row.signature κs) (x : RowRead) (s : AtExit next-row.ended κs)
-      → next-row.clauses 𝓤 H A mem run κs a .ensures tt x s ≡ fact 𝓤 (RowReadOn (a .1 .0) (now (a .0)) x (now (s .0)))
-  next-row-says κs a x s = refl
+  pub row-through-says : (κs : Lfts 2) (a : Args row-through.signature κs) (x : RowRead) (s : AtExit row-through.ended κs)
+      → row-through.clauses 𝓤 H A mem run κs a .ensures tt x s ≡ fact 𝓤 (RowReadOn (a .1 .0) (now (a .0)) x (now (s .0)))
+  row-through-says κs a x s = refl

@@ -6,7 +6,6 @@
 --     of-row                    what is known of a row so far, of its row
 --     by-reader-and-columns, by-bytes-and-columns     the parameters of the functions that read a row
 use mathlib.Core.Path.{_≡_, refl, ap}
-use Prim.Native.Nat.{ℕ}
 use mathlib.Core.List.{List, [], _∷_}
 use lib.Dec.{T as Holds}
 use lib.ListN.{length}
@@ -74,7 +73,8 @@ module _ {M : Type 1} (𝓤 : URA M) (H : Heap 𝓤) (A : Atoms 𝓤) where
   sofar-makes = LL.makes F.the-type F′.the-plain 𝓤 H A
 
   module _ (W : Given 𝓤 H A) where
-    pub columns-typed : (cs : List Column) → Is Columns cs (columns-val cs ∷ []) → Holds (hasTy (lone (Columns .mir)) (columns-val cs)) × WT (columns-val cs)
+    pub columns-typed : (cs : List Column) → Is Columns cs (columns-val cs ∷ [])
+        → Holds (hasTy (lone (Columns .mir)) (columns-val cs)) × WT (columns-val cs)
     columns-typed cs is = array-lawful 𝓤 H A W C.the-row (EL.lawful C.the-type C′.the-laws 𝓤 H A W tt) 5 .typed cs _ is .0
 
     pub read-typed : (x : Read) (v : Val) → Is N.the-row x (v ∷ []) → Holds (hasTy N′.mir v) × WT v

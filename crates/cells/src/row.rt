@@ -47,7 +47,7 @@ fn cell(column: Column, at: usize, read: Read) -> Read
     }
 }
 
-// The first column from j on that is there; 5 where none is.
+// The first column at or after `from` that is there; 5 where none is.
 fn due_from(columns: [Column; 5], from: usize) -> usize
     requires { ⌜ from ≤ 5 ⌝ }
     ensures { λ r. ⌜ r ≡ dueFrom columns from ⌝ }
@@ -105,9 +105,9 @@ fn with_cell(sofar: SoFar, columns: [Column; 5], at: usize, read: Read) -> SoFar
     }
 }
 
-// The row where a reader stands: a cell for each column. The reader moves on past each whole number that a column asks for, up to the first that
-// is refused.
-pub fn next_row<'s, 'a>(r: &'s mut Reader<'a>, columns: [Column; 5]) -> RowRead
+// The row where a reader stands, read through it: a cell for each column. The reader moves on past each whole number that a column asks for, up to the
+// first cell that is refused.
+pub fn row_through<'s, 'a>(r: &'s mut Reader<'a>, columns: [Column; 5]) -> RowRead
     ensures { λ x. ⌜ (x ≡ rowOf (rowAt columns (now (now (r .entry) .src)) (now (r .entry) .at)))
         × (now (r .exit) ≡ pastRow columns (now (r .entry))) ⌝ }
 {
@@ -125,7 +125,7 @@ pub fn row(src: &[u8], at: usize, columns: [Column; 5]) -> RowRead
     ensures { λ r. ⌜ r ≡ rowOf (rowAt columns (now (src .entry)) at) ⌝ }
 {
     let mut r = reader::reader_at(src, at);
-    next_row(&mut r, columns)
+    row_through(&mut r, columns)
 }
 
 // The row after a part of the file: where that was refused, so is the row.

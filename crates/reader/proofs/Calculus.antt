@@ -2,10 +2,10 @@
 -- Assumes nothing.
 
 -- ---- machine values, types and assertions
-pub use mir.Syntax.{Ty, named, erased, mut, w64, tyInt, tyBool, tyRef}
+pub use mir.Syntax.{named, erased, w64, tyInt}
 pub use mir.Val.{Val, vint, vptr}
 pub use base.Logic.{emp, id⊢}
-pub use base.Fml.{Lft, Share, GName, ftrue, fat, froom, flft}
+pub use base.Fml.{Lft, Share, GName, ftrue, fat, flft}
 pub use contract.Lifetimes.{AllOutlive}
 pub use contract.Monad.{factI}
 pub use denote.RattleType.{owns}

@@ -236,7 +236,7 @@ module _ {M : Type 1} {𝓤 : URA M} (g : Here 𝓤) {X : Type 0} where
   open Here g using (H, A, W, C, Λ, looping)
 
   module _ (μ : X → ℕ) (front : X → List (Item 𝓤)) (Γ : List (Item 𝓤)) (E : wp.Env 𝓤 H) (rest : Body) (q : Post 𝓤 H) (x : X) where
-    -- what is to hold where a turn ends: the loop is left with `exit 1`, and what follows it runs; or the next turn begins at an x′ of a smaller measure
+    -- what is to hold where a turn ends: the loop is left with `exit 1`, and what follows it runs; or the next turn begins, at a smaller measure
     abbrev pub Turned : Post 𝓤 H
     Turned =
         anyQ (wp.afterTurn 𝓤 H (Below 𝓤 H A (λ (x′ x : X). μ x′ < μ x) (λ (x : X). front x ++ Γ) x)

@@ -1,8 +1,8 @@
--- `cells::row::next_row` meets its contract: a walk of its MIR, by hand. The borrow of the reader is opened once, before the loop, and closed once,
--- after it, at the reader where it then stands. In between the reader's memory is the function's own: a turn lends it to `next`, and has it back moved
--- on, which is what `next` promises. `with_cell` is handed the number and its place, and says which column is due; the loop ends where none is.
--- The invariant is `Going`, on plain data (`SoFarLaws`), and the measure is how many columns are left. All that the proof knows of the three functions
--- is that each meets its contract.
+-- `cells::row::row_through` meets its contract: a walk of its MIR, by hand. The borrow of the reader is opened once, before the loop, and closed
+-- once, after it, at the reader where it then stands. In between the reader's memory is the function's own: a turn lends it to `next`, and has it
+-- back moved on, which is what `next` promises. `with_cell` is handed the number and its place, and says which column is due; the loop ends where
+-- none is. The invariant is `Going`, on plain data (`SoFarLaws`), and the measure is how many columns are left. All that the proof knows of the three
+-- functions is that each meets its contract.
 use mathlib.Core.Path.{_≡_, refl, sym, ap, _∙_, subst}
 use mathlib.Core.Bool.{Bool, true, false, not}
 use Prim.Native.Nat.{ℕ, _-_, _<_, _≤_}
@@ -49,10 +49,10 @@ use Rattle.cells.proofs.row.with_cell as with-cell
 use Rattle.cells.proofs.row.with_cell.Symbol as with-cell-def
 use Rattle.cells.proofs.row.with_cell.Symbol.{name as #cells·with-cell}
 use Rattle.cells.proofs.row.with_cell.Met as with-cell-thm
-use Rattle.cells.proofs.row.next_row.Key.{name as #cells·next-row}
-use Rattle.cells.proofs.row.next_row as next-row
-use Rattle.cells.proofs.row.next_row.Statement as stated
-use Rattle.cells.proofs.row.next_row.Code as code
+use Rattle.cells.proofs.row.row_through.Key.{name as #cells·row-through}
+use Rattle.cells.proofs.row.row_through as row-through
+use Rattle.cells.proofs.row.row_through.Statement as stated
+use Rattle.cells.proofs.row.row_through.Code as code
 
 -- ---- the facts, on plain data
 
@@ -104,7 +104,7 @@ module _ (cs : List Column) (r₀ : Reader) where
 
 -- ---- the walk
 
-module _ {M : Type 1} (𝓤 : URA M) (g : Here 𝓤) (κ κ′ : Lft) (q q′ : Share) (bounds : AllOutlive 2 (next-row.signature .outlives) (κ, (κ′, tt)))
+module _ {M : Type 1} (𝓤 : URA M) (g : Here 𝓤) (κ κ′ : Lft) (q q′ : Share) (bounds : AllOutlive 2 (row-through.signature .outlives) (κ, (κ′, tt)))
     (b o : ℕ) (γ : GName) (r₀ : Reader) (cs : List Column) (is-cs : Is Columns cs (columns-val cs ∷ [])) where
   open Here g using (H, A, W, mem, run, C, Λ)
 
@@ -112,18 +112,19 @@ module _ {M : Type 1} (𝓤 : URA M) (g : Here 𝓤) (κ κ′ : Lft) (q q′ : 
   abbrev x₀ : RefT Reader
   x₀ = record { ptr = (b, o); name = γ; now = r₀ }
 
-  abbrev y : At g next-row.ended by-reader-and-columns (next-row.clauses 𝓤 H A mem run)
+  abbrev y : At g row-through.ended by-reader-and-columns (row-through.clauses 𝓤 H A mem run)
   y = (((κ, (κ′, tt)), (q, (q′, tt)), bounds, (x₀, (cs, tt)), (vptr b o ∷ [], (columns-val cs ∷ [], tt))), tt)
 
   -- what a turn may change: the reader's memory, and _3, which has the row so far
   abbrev front : ℕ → Turn cs r₀ → List (Item 𝓤)
   front l₃ x =
-      ‵ (Cell (x .r) b o) ∷ ‵ (R κ′ .own (x .r) (lowered (x .r) ∷ [])) ∷ raw (Before 𝓤 A κ′ q′) ∷ ‵ (fat fullShare F′.mir l₃ 0 (sofar-val (x .f))) ∷ []
+      ‵ (Cell (x .r) b o) ∷ ‵ (R κ′ .own (x .r) (lowered (x .r) ∷ [])) ∷ raw (Before 𝓤 A κ′ q′)
+      ∷ ‵ (fat fullShare F′.mir l₃ 0 (sofar-val (x .f))) ∷ []
 
   walk : Meets 𝓤 H A begun.signature (C #cells·begun) (begun.spec 𝓤 H A mem run)
       → Meets 𝓤 H A next.signature (C #reader·next) (next.spec 𝓤 H A mem run)
       → Meets 𝓤 H A with-cell.signature (C #cells·with-cell) (with-cell.spec 𝓤 H A mem run)
-      → Walk g next-row.ended by-reader-and-columns (next-row.clauses 𝓤 H A mem run) code.function y
+      → Walk g row-through.ended by-reader-and-columns (row-through.clauses 𝓤 H A mem run) code.function y
   walk known-begun known-next known-with-cell =
       qed W ((‵ (flft κ q) ⊛ ‵ (flft κ′ q′) ⊛ ‵ ftrue)
       ∷ ‵ (owns (MutRef (named 0) κ (R κ′) ∷ Columns ∷ []) (x₀, (cs, tt)) (vptr b o ∷ [], (columns-val cs ∷ [], tt))) ∷ []) ∵
@@ -191,16 +192,16 @@ module _ {M : Type 1} (𝓤 : URA M) (g : Here 𝓤) (κ κ′ : Lft) (q q′ : 
       move ! (5 ∷ 6 ∷ []) $ free1 ! $ free0 ! $
       -- the reference, the tokens and the answer
       feqI ! (List Val) (vptr b o ∷ []) (vptr b o ∷ []) refl $ fjoin3 ! $ move ! (0 ∷ 3 ∷ []) $ fjoin ! $
-      move ! (1 ∷ 2 ∷ []) $ join ! $ use1 W (raw (alive 𝓤 H A next-row.signature (κ, (κ′, tt)) (q, (q′, tt)))) (id⊢ 𝓤 _) $
+      move ! (1 ∷ 2 ∷ []) $ join ! $ use1 W (raw (alive 𝓤 H A row-through.signature (κ, (κ′, tt)) (q, (q′, tt)))) (id⊢ 𝓤 _) $
       owned ! Row.the-row (Is Row.the-row) (row-makes 𝓤 H A) (f .row) (row-val (f .row) ∷ []) (of-row f _ (x .is)) $
-      ends g ! next-row.ended by-reader-and-columns (next-row.clauses 𝓤 H A mem run) y (row-val (f .row)) (f .row) (r, (tt, tt)) (tt, (tt, tt))
+      ends g ! row-through.ended by-reader-and-columns (row-through.clauses 𝓤 H A mem run) y (row-val (f .row)) (f .row) (r, (tt, tt)) (tt, (tt, tt))
       (factI 𝓤 _ (emp 𝓤) (going-end (x .so) (not-below (f .due) 5 no))))))))))))))))))
 
-pub next-row-spec : {M : Type 1} → stated.statement M
+pub row-through-spec : {M : Type 1} → stated.statement M
 unfolding code.routine tablesOf here
-next-row-spec 𝓤 H 𝓜 𝓖 𝓡 =
-    by-walk 𝓤 H 𝓜 𝓖 𝓡 code.env next-row.ended by-reader-and-columns (next-row.clauses 𝓤 H (𝓖 .A) (𝓜 .mem) (𝓡 .run))
-    #cells·next-row code.function (code.unfolded 𝓤 H 𝓜 𝓡)
+row-through-spec 𝓤 H 𝓜 𝓖 𝓡 =
+    by-walk 𝓤 H 𝓜 𝓖 𝓡 code.env row-through.ended by-reader-and-columns (row-through.clauses 𝓤 H (𝓖 .A) (𝓜 .mem) (𝓡 .run))
+    #cells·row-through code.function (code.unfolded 𝓤 H 𝓜 𝓡)
     (λ κs qs bounds a h are. walk 𝓤 (here 𝓤 H 𝓜 𝓖 𝓡 code.env) (κs .0) (κs .1 .0) (qs .0) (qs .1 .0) bounds
     (a .0 .ptr .0) (a .0 .ptr .1) (a .0 .name) (a .0 .now) (a .1 .0) (are .1 .0)
     (cited 𝓤 H (tripleOf 𝓤 H (𝓖 .A) begun.signature (begun.spec 𝓤 H (𝓖 .A) (𝓜 .mem) (𝓡 .run))) 𝓜 𝓡 code.env
