@@ -1,18 +1,23 @@
--- What is known of a row that was read: each cell is in its column's range, and there are as many as columns.
+-- What is known of a row that was read: each cell is in its column's range, there are as many as columns, and a reader is past it.
 --     row-fits    a row that was read fits its columns
 --     row-long    and has a cell for each
+--     past-row    a reader that reads it stands where the row ends
 -- Assumes nothing.
-use mathlib.Core.Path.{_≡_, refl, sym, ap, subst}
+use mathlib.Core.Path.{_≡_, refl, sym, ap, subst, _∙_}
 use mathlib.Core.List.{List, [], _∷_}
 use Prim.Native.Nat.{ℕ, suc, _+_, _≤_, _<_}
 use native.Mathlib.Omega.{arith}
 use lib.ListN.{length}
+use denote.Ref.{now}
 use Rattle.numbers.specs.Reading.{Out, got, bad}
 use Rattle.numbers.proofs.ReadingLaws.{never, parts}
 use Rattle.numbers.proofs.FieldLaws.{field-got}
+use Rattle.reader.specs.declared.Reader.{Reader}
 use Rattle.cells.specs.declared.columns.Column.{Column}
 use Rattle.cells.specs.declared.columns.Column.the-variants.{Within, Below, Absent}
 use Rattle.cells.specs.Rows.{push, cellAt, rowAt}
+use Rattle.cells.specs.Passing.{pastRow}
+use Rattle.cells.proofs.RowLaws.{to, cell-past, past-step, past-none}
 
 -- a number is in its column's range
 abbrev pub CellFits : Column → ℕ → Type 0
@@ -58,3 +63,13 @@ fits-long (cell f fs) = ap suc (fits-long fs)
 
 pub row-long : (cs : List Column) (s : List ℕ) (at : ℕ) (r : List ℕ) (n : ℕ) → rowAt cs s at ≡ got r n → length r ≡ length cs
 row-long cs s at r n e = fits-long (row-fits cs s at r n e)
+
+-- ---- the reader
+
+pub past-row : (cs : List Column) (r : Reader) (vs : List ℕ) (n : ℕ) → rowAt cs (now (r .src)) (r .at) ≡ got vs n → pastRow cs r ≡ to r n
+unfolding rowAt
+past-row [] r vs n e = let place : r .at ≡ n = cc in past-none r ∙ ap (to r) place
+past-row (c ∷ cs) r vs n e =
+    let p = parts (cellAt c (now (r .src)) (r .at)) _ vs n e in
+    let q = pushed (p .first) (rowAt cs (now (r .src)) (p .place)) vs n (p .rest) in
+    past-step c cs r (p .was) ∙ ap (pastRow cs) (cell-past c r (p .was)) ∙ past-row cs (to r (p .place)) (q .rest) n (q .was)

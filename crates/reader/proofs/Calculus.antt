@@ -19,8 +19,8 @@ pub use denote.Triple.Spec.{Meets, tripleOf}
 pub use denote.Triple.Table.{cited}
 -- ---- the context: entries, and how they are moved, taken apart and put together
 pub use types.Kit.{‵, raw, _⊛_, _$_, _∵_, !, qed, move, keep, drop, use0, use1, split, join, fsplit, fsplit3, fjoin, fjoin3, feqI, rewrite}
-pub use denote.Steps.{owned, peeks, nothing, only}
+pub use denote.Steps.{owned, peeks, facts, nothing, only}
 -- ---- the code: a function is entered and left, a place is found, read and written
 pub use types.Run.{enter, alloc1, alloc0, params1, pass1, pass0, returns, forget, free1, free0}
-pub use types.Run.{look, init, stop, hop, fld, from, load, addr, of-opd, and-then, no-more, assigns, land}
+pub use types.Run.{look, init, store, stop, hop, fld, from, load, lit, addr, of-opd, bin, and-then, no-more, assigns, land, land-last}
 pub use types.Part.{agg, whole, sub, look-in, store-in}

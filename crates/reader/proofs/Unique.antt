@@ -31,6 +31,8 @@ use Rattle.reader.proofs.end_at.Reads as end-at
 use Rattle.reader.proofs.end_at.Kinds as end-at-kinds
 use Rattle.reader.proofs.ends.end_after.Reads as end-after
 use Rattle.reader.proofs.ends.end_after.Kinds as end-after-kinds
+use Rattle.reader.proofs.fields.ranged.Reads as ranged
+use Rattle.reader.proofs.fields.ranged.Kinds as ranged-kinds
 use Rattle.reader.proofs.fields.field.Reads as field
 use Rattle.reader.proofs.fields.field.Kinds as field-kinds
 use Rattle.reader.proofs.fields.version.Reads as version
@@ -46,6 +48,9 @@ end-at-fixes κs a x x′ s s′ = same
 
 pub end-after-fixes : Fixes end-after-kinds.ps end-after-kinds.r end-after.Post
 end-after-fixes κs a x x′ s s′ = same
+
+pub ranged-fixes : Fixes ranged-kinds.ps ranged-kinds.r ranged.Post
+ranged-fixes κs a x x′ s s′ = same
 
 pub field-fixes : Fixes field-kinds.ps field-kinds.r field.Post
 field-fixes κs a x x′ s s′ = same

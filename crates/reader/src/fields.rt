@@ -1,14 +1,15 @@
 // Numbers with a range, read through a reader.
 ghost use mathlib.Core.Path.{_≡_};
 ghost use Rattle.numbers.specs.Reading.{fieldAt, versionAt, readOf};
+ghost use Rattle.reader.specs.Ranges.{rangedOf};
 use numbers::reading::Read;
 use numbers::refusals::Refusal;
 
-// The number at `at`, which is to be at least `low` and below `end`.
-pub fn field(src: &[u8], at: usize, low: u32, end: u32) -> Read
-    ensures { λ r. ⌜ r ≡ readOf (fieldAt (now (src .entry)) at low end) ⌝ }
+// A number that was read at `at`, which is to be at least `low` and below `end`.
+pub fn ranged(at: usize, read: Read, low: u32, end: u32) -> Read
+    ensures { λ r. ⌜ r ≡ rangedOf at low end read ⌝ }
 {
-    match crate::number_at(src, at) {
+    match read {
         Read::Value { value, next } => {
             if value < low {
                 return Read::Refused {
@@ -24,6 +25,13 @@ pub fn field(src: &[u8], at: usize, low: u32, end: u32) -> Read
         }
         Read::Refused { refusal } => Read::Refused { refusal },
     }
+}
+
+// The number at `at`, which is to be at least `low` and below `end`.
+pub fn field(src: &[u8], at: usize, low: u32, end: u32) -> Read
+    ensures { λ r. ⌜ r ≡ readOf (fieldAt (now (src .entry)) at low end) ⌝ }
+{
+    ranged(at, crate::number_at(src, at), low, end)
 }
 
 // The version that a file begins with, which is to be 1.

@@ -16,7 +16,8 @@ use Rattle.reader.proofs.ends.End as E
 use Rattle.reader.proofs.ends.End.Laws as E′
 use Rattle.reader.proofs.EndLaws.{ended-left}
 use Rattle.reader.proofs.Walks.{Here, here, At, Walk, by-walk, asks-thin, ends}
-use Rattle.reader.proofs.OwnedReader.{R, typed, slice, Apart, reader-twice, makes-reader, by-bytes}
+use Rattle.reader.proofs.OwnedReader.{R, typed, slice, Apart, reader-twice, by-bytes}
+use Rattle.reader.proofs.ReaderCalls.{makes-reader}
 use Rattle.reader.proofs.Calculus.{named, erased, w64, vint, emp, id⊢, Lft, Share, factI, Is, shows, uint-lawful, u8, usize, RefT, now}
 use Rattle.reader.proofs.Calculus.{ShrSlice, shr-slice-lawful, alive, Meets, tripleOf, cited, ‵, raw, _⊛_, _$_, _∵_, !, qed, move, drop, use0}
 use Rattle.reader.proofs.Calculus.{use1, split, fjoin, peeks, nothing, enter, alloc1, alloc0, params1, pass1, pass0, returns, forget, free1}

@@ -22,7 +22,8 @@ use Rattle.reader.specs.Places.{pastOf}
 use Rattle.reader.specs.declared.Reader.{Reader}
 use Rattle.reader.proofs.Reader.Laws.{lowered}
 use Rattle.reader.proofs.Walks.{Here, here, At, Walk, by-walk, asks-thin, ends}
-use Rattle.reader.proofs.OwnedReader.{R, typed, fits, slice, Apart, apart, reader-twice, placed, opens-reader, closes-reader, by-lent-reader}
+use Rattle.reader.proofs.OwnedReader.{R, typed, fits, slice, Apart, apart, reader-twice, placed, opens-reader, closes-reader}
+use Rattle.reader.proofs.OwnedReader.{place-behind, by-lent-reader}
 use Rattle.reader.proofs.Calculus.{named, erased, w64, tyInt, Val, vint, vptr, emp, id⊢, Lft, Share, GName, ftrue, fat, flft, AllOutlive}
 use Rattle.reader.proofs.Calculus.{factI, owns, Is, shows, uint-lawful, uint-makes, usize, RefT, MutRef, now, alive, Meets, tripleOf, cited}
 use Rattle.reader.proofs.Calculus.{‵, raw, _⊛_, _$_, _∵_, !, qed, move, drop, use0, use1, split, join, fsplit, fsplit3, fjoin, fjoin3, feqI}
@@ -67,7 +68,7 @@ module _ {M : Type 1} (𝓤 : URA M) (g : Here 𝓤) (κ κ′ : Lft) (q q′ : 
       -- [_5; …; _4; …; _3; …; _2; …; _1; …; _0; …; the tokens; what the reference owns]: the borrow is opened
       move ! (13 ∷ []) $ fsplit ! $ fsplit3 ! $ drop ! $ move ! (15 ∷ []) $ split ! $ move ! (2 ∷ 3 ∷ 0 ∷ []) $ opens-reader ! tt κ′ r b o (λ is.
       -- [the reader's cell; what the reader owns; the open borrow; obs; auth; the token of 'a; true; _5; …; _4; …; _3; …; _2; …; _1; …; _0; …]
-      assigns ! (of-opd ! (load ! (from ! (hop ! (look ! 15 refl) (fld ! refl (stop !)))) (look-in ! 0 (sub ! 1 refl (whole !))))) (from ! (stop !))
+      assigns ! (of-opd ! (place-behind ! r 0 (look ! 15 refl) (whole !))) (from ! (stop !))
       (init ! 13 refl (tt, record { fits = fits κ′ r _ is })) $
       assigns ! (of-opd ! (load ! (from ! (hop ! (look ! 15 refl) (fld ! refl (stop !)))) (look-in ! 0 (sub ! 0 refl (whole !))))) (from ! (stop !))
       (init ! 9 refl (tt, typed 𝓤 H A W erased κ′ r _ is .1 .0)) $
