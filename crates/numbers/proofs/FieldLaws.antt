@@ -1,6 +1,6 @@
 -- Laws of a number that has a range.
---     field-in     a number in its range is the field
---     field-got    what is known of a field that was read
+--     field-low, -high, -in    what `fieldAt` gives for a number below its range, above it and in it
+--     field-got                what is known of a field that was read
 -- Assumes nothing.
 use mathlib.Core.Path.{_≡_, refl}
 use mathlib.Core.List.{List}
@@ -16,6 +16,14 @@ use Rattle.numbers.proofs.ReadingLaws.{never, parts}
 use Rattle.numbers.proofs.NumberLaws.{number-past}
 
 module _ (s : List ℕ) (at low end : ℕ) where
+  pub field-low : {v n : ℕ} → numberAt s at ≡ got v n → v < low → fieldAt s at low end ≡ bad (Outside at)
+  unfolding fieldAt
+  field-low q h = rw q (simp (lt-ltb _ _ h))
+
+  pub field-high : {v n : ℕ} → numberAt s at ≡ got v n → low ≤ v → end ≤ v → fieldAt s at low end ≡ bad (Outside at)
+  unfolding fieldAt
+  field-high q l h = rw q (simp (le-ltb _ _ l, le-ltb _ _ h))
+
   pub field-in : {v n : ℕ} → numberAt s at ≡ got v n → low ≤ v → v < end → fieldAt s at low end ≡ got v n
   unfolding fieldAt
   field-in q l h = rw q (simp (le-ltb _ _ l, lt-ltb _ _ h))

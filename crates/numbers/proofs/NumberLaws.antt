@@ -109,10 +109,10 @@ number-groups s at e = rw e
 pub number-small : (s : List ℕ) (at : ℕ) → at < length s → getD s at 0 < 128 → numberAt s at ≡ got (getD s at 0) (at + 1)
 number-small s at h l = number-groups s at (sym (groups-last 4 3 0 s at refl h l (omega arith)))
 
-number-value : (length at v n : ℕ) (r : Grouped) → outOf length at r ≡ got v n → r ≡ Value v n
-number-value length at v n (Value w m) e = cc
-number-value length at v n Cut e = never (cc)
-number-value length at v n Long e = never (cc)
+number-value : (bytes at v n : ℕ) (r : Grouped) → outOf bytes at r ≡ got v n → r ≡ Value v n
+number-value bytes at v n (Value w m) e = cc
+number-value bytes at v n Cut e = never (cc)
+number-value bytes at v n Long e = never (cc)
 
 -- what callers use of a number that was read
 module _ (s : List ℕ) (at v n : ℕ) (q : numberAt s at ≡ got v n) where
