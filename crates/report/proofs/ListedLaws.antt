@@ -79,7 +79,7 @@ pub record GoesOn (mem : List ℕ) (from : ℕ) (before after : List ℕ) (k nex
 module _ {mem : List ℕ} {from : ℕ} {before : List ℕ} {k next : ℕ} where
   goes-on-in : (T : Table) {r : Next} {after : List ℕ} → NextIn T (MarkedIn T mem) from before r after → r ≡ Line k next
       → GoesOn mem from before after k next
-  goes-on-in T (line {p} {length = j} f w) e =
+  goes-on-in T (line {p} {written = j} f w) e =
       let n : p + 1 ≡ next = cc in
       let l : j ≡ k = cc in
       record {

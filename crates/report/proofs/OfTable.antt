@@ -38,7 +38,7 @@ module _ {T T′ : Table} (same-room : W T ≡ W T′) (same-facts : (p : ℕ) �
       record { past = k .past; below = l; here = fro p l (k .here) }
 
   next-to : {before : List ℕ} {r : Next} {after : List ℕ} → NextIn T A from before r after → NextIn T′ B from before r after
-  next-to {before} {after = after} (line {p} {length = k} f w) =
+  next-to {before} {after = after} (line {p} {written = k} f w) =
       line (record { here = listed-to (f .here); none = λ q b i. f .none q b (listed-fro i) })
       (subst (λ (x : Fact). Written (factLine x) before after k) (same-facts p) w)
   next-to (end none) = end (λ p i. none p (listed-fro i))
