@@ -1,21 +1,22 @@
 // Lists of rows: one reader for the four lists. A list is found first, with nothing stored, and then kept in memory.
 ghost use mathlib.Core.Path.{_≡_};
 ghost use mathlib.Core.List.{[]};
-ghost use Prim.Native.Nat.{_+_, _*_, _≤_};
+ghost use Prim.Native.Nat.{_+_, _*_, _≤_, _<_};
 ghost use lib.ListN.{length};
-ghost use lib.Seq.{sets};
-ghost use Rattle.numbers.specs.Reading.{bad};
+ghost use Rattle.numbers.specs.Reading.{bad, numberAt};
+ghost use Rattle.cells.specs.Rows.{cellAt, rowAt};
 ghost use Rattle.cells.specs.Answers.{rowOf};
 ghost use Rattle.lists.specs.Order.{below};
 ghost use Rattle.lists.specs.Lists.{nextRow, rowsAt, listAt};
 ghost use Rattle.lists.specs.ListAnswers.{listOf, listAfter};
-ghost use Rattle.lists.specs.Keeping.{Found, listHeld};
+ghost use Rattle.lists.specs.Keeping.{Found, FoundByte, CellKept, RowKept, listHeld};
 ghost use Rattle.lists.specs.Stages.{oldOf};
 use cells::columns::Column;
 use cells::row::RowRead;
 use cells::row::no_row;
 use cells::row::row;
 use numbers::reading::Read;
+use numbers::reading::number;
 use numbers::refusals::Refusal;
 use reader::ends::End;
 
@@ -133,19 +134,52 @@ pub fn find_list(src: &[u8], before: End, most: u16, columns: [Column; 5]) -> Li
 
 // ---- keeping a list that was found
 
-// Five cells into dst from `base` on.
-fn store(dst: &mut [u8], base: usize, cells: [u8; 5])
-    requires { ⌜ base + 5 ≤ length (now dst) ⌝ }
-    ensures { λ _. ⌜ now (dst .exit) ≡ sets (now (dst .entry)) base cells ⌝ }
+// The number at `at`, which was found and fits a byte, into dst at `to`. Gives the place past it.
+fn keep_number(src: &[u8], at: usize, dst: &mut [u8], to: usize) -> usize
+    requires { ⌜ FoundByte (numberAt (now src) at) × (to < length (now dst)) ⌝ }
+    ensures { λ r. ⌜ CellKept (numberAt (now (src .entry)) at) to (now (dst .entry)) (now (dst .exit)) r ⌝ }
 {
-    dst[base] = cells[0];
-    dst[base + 1] = cells[1];
-    dst[base + 2] = cells[2];
-    dst[base + 3] = cells[3];
-    dst[base + 4] = cells[4];
+    match number(src, at) {
+        Read::Value { value, next } => {
+            dst[to] = value as u8;
+            next
+        }
+        Read::Refused { refusal: _ } => at,
+    }
 }
 
-// `count` rows from `at` on, which were found, into dst, five bytes a row. So no row is refused, and none is compared.
+// The cell of a column at `at`, which was found, into dst at `to`: the number there, with no range asked again; 0 for a column that is not there. Gives
+// the place past it.
+fn keep_cell(src: &[u8], at: usize, column: Column, dst: &mut [u8], to: usize) -> usize
+    requires { ⌜ Found (cellAt column (now src) at) × (to < length (now dst)) ⌝ }
+    ensures { λ r. ⌜ CellKept (cellAt column (now (src .entry)) at) to (now (dst .entry)) (now (dst .exit)) r ⌝ }
+{
+    match column {
+        Column::Within {
+            low: _,
+            most: _most,
+        } => keep_number(src, at, dst, to),
+        Column::Below { end: _end } => keep_number(src, at, dst, to),
+        Column::Absent => {
+            dst[to] = 0;
+            at
+        }
+    }
+}
+
+// The row at `at`, which was found, into dst from `base` on. Gives the place past it.
+fn keep_row(src: &[u8], at: usize, columns: [Column; 5], dst: &mut [u8], base: usize) -> usize
+    requires { ⌜ Found (rowAt columns (now src) at) × (base + 5 ≤ length (now dst)) ⌝ }
+    ensures { λ r. ⌜ RowKept (rowAt columns (now (src .entry)) at) base (now (dst .entry)) (now (dst .exit)) r ⌝ }
+{
+    let p1 = keep_cell(src, at, columns[0], dst, base);
+    let p2 = keep_cell(src, p1, columns[1], dst, base + 1);
+    let p3 = keep_cell(src, p2, columns[2], dst, base + 2);
+    let p4 = keep_cell(src, p3, columns[3], dst, base + 3);
+    keep_cell(src, p4, columns[4], dst, base + 4)
+}
+
+// `count` rows from `at` on, which were found, into dst, five bytes a row. So no row is compared.
 fn keep_rows(src: &[u8], at: usize, count: usize, columns: [Column; 5], dst: &mut [u8])
     requires { ⌜ Found (rowsAt count [] columns (now src) at) × (5 * count ≤ length (now dst)) ⌝ }
     ensures { λ _. ⌜ now (dst .exit) ≡ listHeld (rowsAt count [] columns (now (src .entry)) at) (now (dst .entry)) ⌝ }
@@ -153,18 +187,7 @@ fn keep_rows(src: &[u8], at: usize, count: usize, columns: [Column; 5], dst: &mu
     let mut p = at;
     let mut i = 0;
     while i < count {
-        let read = row(src, p, columns);
-        let cells = read.cells;
-        let end = read.end;
-        match end {
-            End::Past { next } => {
-                store(dst, 5 * i, cells);
-                p = next;
-            }
-            End::Refused { refusal: _ } => {
-                return;
-            }
-        }
+        p = keep_row(src, p, columns, dst, 5 * i);
         i += 1;
     }
 }
