@@ -1,26 +1,26 @@
 -- A cell and a row that were found are kept.
---     byte-fits, -never    a number that was found and fits a byte does, and is not refused
---     cell-found, -kept    the number at the place of a cell that was found is the cell, and fits a byte: to keep it is to keep the cell
---     absent-kept          the cell of a column that is not there is 0
---     Midway, mid-…        j cells of the row stand in memory, and the rest of the row stands from p on
+--     byte-here, -read, -past    a number that was found and fits a byte: its first byte is there and is the number, and it ends within the bytes
+--     cell-found, -kept          the number at the place of a cell that was found is the cell, and fits a byte: to keep it is to keep the cell
+--     absent-kept                the cell of a column that is not there is 0
+--     Midway, mid-…              j cells of the row stand in memory, and the rest of the row stands from p on
 -- Since the whole row is found, so is each of its cells.
 use mathlib.Core.Path.{_≡_, refl, sym, ap, _∙_}
 use mathlib.Core.List.{List, [], _∷_, _++_, append-nil}
-use Prim.Native.Nat.{ℕ, suc, _+_, _≤_, _<_}
+use Prim.Native.Nat.{ℕ, suc, _+_, _/_, _≤_, _<_}
 use native.Mathlib.Omega.{arith}
 use native.Mathlib.Numerals.{add-one}
-use lib.ListN.{length, set, drop, length-append}
+use lib.ListN.{length, getD, set, drop, length-append}
 use lib.Seq.{sets, length-sets, drop-length}
-use Rattle.numbers.specs.declared.refusals.Refusal.{Refusal}
 use Rattle.numbers.specs.declared.reading.Read.the-variants.{Value}
-use Rattle.numbers.specs.Reading.{Out, got, bad, numberAt, fieldAt, readOf}
-use Rattle.numbers.proofs.ReadingLaws.{never, parts, read-got}
+use Rattle.numbers.specs.Reading.{got, numberAt, fieldAt, readOf}
+use Rattle.numbers.proofs.ReadingLaws.{parts, read-got}
+use Rattle.numbers.proofs.NumberLaws.{Accepted, ended, more, accepted-one, number-accepted, number-past}
 use Rattle.numbers.proofs.PutLaws.{sets-append}
 use Rattle.reader.specs.Ranges.{rangedOf}
 use Rattle.reader.proofs.RangeLaws.{ranged-field, ranged-got}
 use Rattle.cells.specs.declared.columns.Column.{Column}
 use Rattle.cells.specs.declared.columns.Column.the-variants.{Within, Below, Absent}
-use Rattle.cells.specs.Rows.{push, cellAt, rowAt}
+use Rattle.cells.specs.Rows.{cellAt, rowAt}
 use Rattle.cells.specs.Stages.{columnAt}
 use Rattle.cells.proofs.RowLaws.{onward, onward-none, onward-push, row-step, row-none, drop-column}
 use Rattle.cells.proofs.RowFits.{pushed}
@@ -28,15 +28,32 @@ use Rattle.lists.specs.Keeping.{Found, FoundByte, CellKept, RowKept}
 
 -- ---- a number
 
-module _ {o : Out ℕ} (f : FoundByte o) where
-  pub byte-fits : (v n : ℕ) → o ≡ got v n → v < 256
-  byte-fits v n e =
-      let (w, m, q, h) = f in
-      let same : w ≡ v = cc in
-      omega (arith, h)
+module _ {s : List ℕ} where
+  one-byte : {left at v n : ℕ} → Accepted s left 1 at v n → v < 128 → n ≡ at + 1
+  one-byte (ended h l z e m) f = m
+  one-byte (more w h l e a) f = absurd (omega (arith, accepted-one s a))
 
-  pub byte-never : {A : Type 0} (r : Refusal) → o ≡ bad r → A
-  byte-never r e = let (w, m, q, h) = f in never (cc)
+  first-byte : {left least at v n : ℕ} → Accepted s left least at v n → v < 256 → getD s at 0 < 256
+      → (v ≡ getD s at 0) × (n ≡ at + 1 + getD s at 0 / 128)
+  first-byte (ended h l z e m) f b = (e, omega arith)
+  first-byte (more w h l e a) f b =
+      let one : w ≡ 1 = omega (arith, accepted-one s a) in
+      (omega arith, omega (arith, one-byte a (omega arith)))
+
+-- a number that fits a byte is its first byte, and has a second where that is at least 128
+module _ (s : List ℕ) (at : ℕ) (f : FoundByte (numberAt s at)) where
+  pub byte-here : at < length s
+  byte-here = let (v, n, e, h) = f in omega (arith, number-past s at v n e)
+
+  module _ (b : getD s at 0 < 256) where
+    pub byte-read : numberAt s at ≡ got (getD s at 0) (at + 1 + getD s at 0 / 128)
+    byte-read =
+        let (v, n, e, h) = f in
+        let k = first-byte (number-accepted s at v n e) h b in
+        rw (← k .1, ← k .0) e
+
+    pub byte-past : at + 1 + getD s at 0 / 128 ≤ length s
+    byte-past = omega (arith, number-past s at _ _ byte-read)
 
 -- ---- a cell
 

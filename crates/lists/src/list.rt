@@ -16,7 +16,6 @@ use cells::row::RowRead;
 use cells::row::no_row;
 use cells::row::row;
 use numbers::reading::Read;
-use numbers::reading::number;
 use numbers::refusals::Refusal;
 use reader::ends::End;
 
@@ -134,18 +133,15 @@ pub fn find_list(src: &[u8], before: End, most: u16, columns: [Column; 5]) -> Li
 
 // ---- keeping a list that was found
 
-// The number at `at`, which was found and fits a byte, into dst at `to`. Gives the place past it.
+// The number at `at`, which was found and fits a byte, into dst at `to`. Gives the place past it. Such a number is its first byte, and has a second one,
+// which is 1, where the first is at least 128.
 fn keep_number(src: &[u8], at: usize, dst: &mut [u8], to: usize) -> usize
     requires { ⌜ FoundByte (numberAt (now src) at) × (to < length (now dst)) ⌝ }
     ensures { λ r. ⌜ CellKept (numberAt (now (src .entry)) at) to (now (dst .entry)) (now (dst .exit)) r ⌝ }
 {
-    match number(src, at) {
-        Read::Value { value, next } => {
-            dst[to] = value as u8;
-            next
-        }
-        Read::Refused { refusal: _ } => at,
-    }
+    let b = src[at];
+    dst[to] = b;
+    at + 1 + (b / 128) as usize
 }
 
 // The cell of a column at `at`, which was found, into dst at `to`: the number there, with no range asked again; 0 for a column that is not there. Gives
