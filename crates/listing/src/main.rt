@@ -1,4 +1,5 @@
 // The listing program (document 01, "Reference tables and results"): checks the table on standard input and prints what comes back.
+ghost use mathlib.Core.Path.{_≡_};
 ghost use Prim.Native.Nat.{_+_, _≤_};
 ghost use lib.ListN.{length};
 ghost use Rattle.rules.specs.Checking.{Checked};
@@ -19,7 +20,7 @@ const BUDGET: usize = 65536;
 
 // Checks a table with all that the bench has.
 fn check_on_bench(table: &[u8], mem: &mut Memory) -> Answer
-    ensures { λ r. ⌜ Checked (now (table .entry)) 65536 (now (mem .entry)) r (now (mem .exit)) ⌝ }
+    ensures { λ r. ⌜ Checked (now (table .entry)) 65536 (now (mem .entry)) r (now (mem .exit)) × (length (now (mem .entry)) ≡ 65536) ⌝ }
 {
     check(table, mem, BUDGET)
 }
