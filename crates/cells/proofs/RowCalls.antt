@@ -20,7 +20,7 @@ use Rattle.reader.proofs.Calculus.{fjoin, owned, facts, nothing}
 use Rattle.cells.specs.declared.columns.Column.{Column}
 use Rattle.cells.specs.declared.row.RowRead.{RowRead}
 use Rattle.cells.specs.Rows.{rowAt}
-use Rattle.cells.specs.Answers.{rowOf}
+use Rattle.cells.specs.Answers.{rowReadOf}
 use Rattle.cells.specs.Passing.{pastRow}
 use Rattle.cells.proofs.Values.{Columns, columns-val, columns-makes}
 use Rattle.cells.proofs.row.RowRead as Row
@@ -43,7 +43,7 @@ module _ {M : Type 1} {𝓤 : URA M} (g : Here 𝓤) (κ : Lft) (q : Share) (r :
         ),
         tt,
       )) ∷ Lender 𝓤 A κ q a b o δ ∷ Γ) E xs (vptr b o ∷ columns-val cs ∷ []))
-      → ((v : Val) (x : RowRead) (r′ : Reader) → x ≡ rowOf (rowAt cs (now (r .src)) (r .at)) → r′ ≡ pastRow cs r → Is Row.the-row x (v ∷ [])
+      → ((v : Val) (x : RowRead) (r′ : Reader) → x ≡ rowReadOf (rowAt cs (now (r .src)) (r .at)) → r′ ≡ pastRow cs r → Is Row.the-row x (v ∷ [])
       → Seq K W (‵ (Cell r′ b o) ∷ ‵ (R κ .own r′ (lowered r′ ∷ [])) ∷ raw (Before 𝓤 A κ q) ∷ Γ) (lands C Λ E d v rest p))
       → Seq K W (‵ (fat fullShare (T′.mir erased) b o u) ∷ ‵ (R κ .own r (u ∷ [])) ∷ raw (Before 𝓤 A κ q) ∷ Γ) (runs C Λ E (seq (call f xs d) rest) p)
   reads-row t known is-cs os k =
@@ -52,7 +52,7 @@ module _ {M : Type 1} {𝓤 : URA M} (g : Here 𝓤) (κ : Lft) (q : Share) (r :
       move t (1 ∷ 0 ∷ []) $ fjoin t $ move t (1 ∷ 0 ∷ []) $
       asks g row-through.ended (row-through.clauses 𝓤 H A mem run) t known (loan a κ, (κ, tt)) (one q, (other q, tt)) (meet-⊑-right (a ∷ []) κ, tt)
       (lent-at b o δ r, (cs, tt)) (vptr b o ∷ [], (columns-val cs ∷ [], tt)) tt (id⊢ 𝓤 _)
-      (λ (x : RowRead) (ws : Reader × (Unit {0} × Unit {0})). (x ≡ rowOf (rowAt cs (now (r .src)) (r .at))) × (ws .0 ≡ pastRow cs r))
+      (λ (x : RowRead) (ws : Reader × (Unit {0} × Unit {0})). (x ≡ rowReadOf (rowAt cs (now (r .src)) (r .at))) × (ws .0 ≡ pastRow cs r))
       (λ x ws. id⊢ 𝓤 _) (os a δ) (λ v x ws e.
       -- [what the answer owns; the tokens; the last values; what the lender keeps; …]
       facts t Row.the-row (Is Row.the-row) (shows 𝓤 H A Row.the-row) x (v ∷ []) (λ is-x.

@@ -2,7 +2,6 @@
 --     row-fits    a row that was read fits its columns
 --     row-long    and has a cell for each
 --     past-row    a reader that reads it stands where the row ends
--- Assumes nothing.
 use mathlib.Core.Path.{_≡_, refl, sym, ap, subst, _∙_}
 use mathlib.Core.List.{List, [], _∷_}
 use Prim.Native.Nat.{ℕ, suc, _+_, _≤_, _<_}

@@ -2,7 +2,6 @@
 --     five-cells   a row of five cells, cell by cell
 --     sets-whole   a run of stores over the whole memory leaves nothing of what was there
 --     sets-past    past a run of stores the memory is as it was
--- Assumes nothing.
 use mathlib.Core.Path.{_≡_, refl, _∙_}
 use mathlib.Core.List.{List, [], _∷_, append-nil}
 use Prim.Native.Nat.{ℕ, suc, _+_, _≤_}

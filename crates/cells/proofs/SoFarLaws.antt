@@ -22,7 +22,7 @@ use Rattle.cells.specs.declared.columns.Column.{Column}
 use Rattle.cells.specs.declared.columns.Column.the-variants.{Within, Below, Absent}
 use Rattle.cells.specs.declared.row.SoFar.{SoFar}
 use Rattle.cells.specs.Rows.{cellAt, rowAt}
-use Rattle.cells.specs.Answers.{rowOf}
+use Rattle.cells.specs.Answers.{rowReadOf}
 use Rattle.cells.specs.Passing.{pastCell, pastRow}
 use Rattle.cells.specs.Stages.{cellOf, absent, dueFrom, columnAt, begunAt, withCell}
 use Rattle.cells.proofs.RowLaws.{to, cell-read, cell-past, Filling, next-column, fill-start, fill-more, fill-bad, fill-end}
@@ -33,7 +33,7 @@ abbrev at-column : List ℕ → ℕ → ℕ → SoFar
 at-column cells p j = record { row = record { cells = cells; end = Past p }; due = j }
 
 abbrev stopped : Refusal → SoFar
-stopped x = record { row = rowOf (bad x); due = 5 }
+stopped x = record { row = rowReadOf (bad x); due = 5 }
 
 pub data Going (cs : List Column) (r₀ : Reader) : Reader → SoFar → Type 0 where
   reading : {cells : List ℕ} {r : Reader} {j : ℕ} → Filling cs r₀ cells r j → absent (drop j cs) ≡ 0 → Going cs r₀ r (at-column cells (r .at) j)
@@ -82,9 +82,9 @@ module _ {cs : List Column} {r₀ : Reader} where
   going-on (refused row past) h = absurd (omega arith)
 
   pub going-end : {r : Reader} {f : SoFar} → Going cs r₀ r f → 5 ≤ f .due
-      → (f .row ≡ rowOf (rowAt cs (now (r₀ .src)) (r₀ .at))) × (r ≡ pastRow cs r₀)
-  going-end (reading f there) h = let (row, past) = fill-end f h in (ap rowOf (sym row), sym past)
-  going-end (refused row past) h = (ap rowOf (sym row), sym past)
+      → (f .row ≡ rowReadOf (rowAt cs (now (r₀ .src)) (r₀ .at))) × (r ≡ pastRow cs r₀)
+  going-end (reading f there) h = let (row, past) = fill-end f h in (ap rowReadOf (sym row), sym past)
+  going-end (refused row past) h = (ap rowReadOf (sym row), sym past)
 
   pub due-less : {r : Reader} {f : SoFar} → Going cs r₀ r f → f .due < 5 → 5 - after-turn cs r f .due < 5 - f .due
   due-less {r} {f} g h = later (cellOf (columnAt cs (f .due)) (r .at) (found r))

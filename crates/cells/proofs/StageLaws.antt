@@ -1,5 +1,4 @@
 -- What the answer of reading a row tells: it is the image of what was read, and the image is taken back.
--- Assumes nothing.
 use mathlib.Core.Path.{_≡_, sym, ap, _∙_}
 use mathlib.Core.List.{List}
 use Prim.Native.Nat.{ℕ}
@@ -8,9 +7,9 @@ use Rattle.numbers.specs.Reading.{Out, got, bad}
 use Rattle.numbers.proofs.ReadingLaws.{never}
 use Rattle.reader.specs.declared.ends.End.the-variants.{Past, Refused}
 use Rattle.cells.specs.declared.row.RowRead.{RowRead}
-use Rattle.cells.specs.Answers.{rowOf}
+use Rattle.cells.specs.Answers.{rowReadOf}
 
-pub row-past : (o : Out (List ℕ)) {a : RowRead} {n : ℕ} → a ≡ rowOf o → a .end ≡ Past n → o ≡ got (a .cells) n
+pub row-past : (o : Out (List ℕ)) {a : RowRead} {n : ℕ} → a ≡ rowReadOf o → a .end ≡ Past n → o ≡ got (a .cells) n
 row-past (got r m) {a} {n} e p =
     let q : r ≡ a .cells = ap (λ (x : RowRead). x .cells) (sym e) in
     let z : m ≡ n = same (sym (ap (λ (x : RowRead). x .end) e) ∙ p) in
@@ -23,7 +22,7 @@ row-past (bad x) {a} {n} e p = never (other (sym (ap (λ (x : RowRead). x .end) 
     other : {x : Refusal} {k : ℕ} → Refused x ≡ Past k → _≡_ {A = ℕ} 0 1
     other i = cc
 
-pub row-refused : (o : Out (List ℕ)) {a : RowRead} {x : Refusal} → a ≡ rowOf o → a .end ≡ Refused x → o ≡ bad x
+pub row-refused : (o : Out (List ℕ)) {a : RowRead} {x : Refusal} → a ≡ rowReadOf o → a .end ≡ Refused x → o ≡ bad x
 row-refused (got r m) {a} {x} e p = never (other (sym (ap (λ (x : RowRead). x .end) e) ∙ p))
   where
     other : {x : Refusal} {k : ℕ} → Past k ≡ Refused x → _≡_ {A = ℕ} 0 1

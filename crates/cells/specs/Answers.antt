@@ -8,6 +8,6 @@ use Rattle.cells.specs.declared.row.RowRead.{RowRead}
 abbrev pub noCells : List ℕ
 noCells = 0 ∷ 0 ∷ 0 ∷ 0 ∷ 0 ∷ []
 
-abbrev pub rowOf : Out (List ℕ) → RowRead
-rowOf (got r next) = record { cells = r; end = Past next }
-rowOf (bad x) = record { cells = noCells; end = Refused x }
+abbrev pub rowReadOf : Out (List ℕ) → RowRead
+rowReadOf (got r next) = record { cells = r; end = Past next }
+rowReadOf (bad x) = record { cells = noCells; end = Refused x }

@@ -10,7 +10,7 @@ use Rattle.reader.specs.declared.ends.End.the-variants.{Past}
 use Rattle.cells.specs.declared.columns.Column.{Column}
 use Rattle.cells.specs.declared.columns.Column.the-variants.{Within, Below, Absent}
 use Rattle.cells.specs.declared.row.SoFar.{SoFar}
-use Rattle.cells.specs.Answers.{noCells, rowOf}
+use Rattle.cells.specs.Answers.{noCells, rowReadOf}
 
 -- a number that was read at a place for a column, if it is in the column's range; the cell of a column that is not there is 0
 abbrev pub cellOf : Column → ℕ → Read → Read
@@ -46,4 +46,4 @@ begunAt cs at = record { row = record { cells = noCells; end = Past at }; due = 
 abbrev pub withCell : SoFar → List Column → Read → SoFar
 withCell f cs (Value value next) =
     record { row = record { cells = set (f .row .cells) (f .due) value; end = Past next }; due = dueFrom cs (f .due + 1) }
-withCell f cs (Refused r) = record { row = rowOf (bad r); due = 5 }
+withCell f cs (Refused r) = record { row = rowReadOf (bad r); due = 5 }

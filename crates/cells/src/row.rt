@@ -3,7 +3,7 @@ ghost use mathlib.Core.Path.{_≡_};
 ghost use Prim.Native.Nat.{_<_, _≤_};
 ghost use Rattle.numbers.specs.Reading.{bad};
 ghost use Rattle.cells.specs.Rows.{rowAt};
-ghost use Rattle.cells.specs.Answers.{rowOf};
+ghost use Rattle.cells.specs.Answers.{rowReadOf};
 ghost use Rattle.cells.specs.Passing.{pastRow};
 ghost use Rattle.cells.specs.Stages.{cellOf, FitsByte, columnAt, dueFrom, begunAt, withCell};
 ghost use Rattle.reader.specs.Ends.{after};
@@ -28,7 +28,7 @@ pub(crate) struct SoFar {
 
 // A row that is refused.
 pub fn no_row(refusal: Refusal) -> RowRead
-    ensures { λ r. ⌜ r ≡ rowOf (bad refusal) ⌝ }
+    ensures { λ r. ⌜ r ≡ rowReadOf (bad refusal) ⌝ }
 {
     RowRead {
         cells: [0; 5],
@@ -108,7 +108,7 @@ fn with_cell(sofar: SoFar, columns: [Column; 5], at: usize, read: Read) -> SoFar
 // The row where a reader stands, read through it: a cell for each column. The reader moves on past each whole number that a column asks for, up to the
 // first cell that is refused.
 pub fn row_through<'s, 'a>(r: &'s mut Reader<'a>, columns: [Column; 5]) -> RowRead
-    ensures { λ x. ⌜ (x ≡ rowOf (rowAt columns (now (now (r .entry) .src)) (now (r .entry) .at)))
+    ensures { λ x. ⌜ (x ≡ rowReadOf (rowAt columns (now (now (r .entry) .src)) (now (r .entry) .at)))
         × (now (r .exit) ≡ pastRow columns (now (r .entry))) ⌝ }
 {
     let mut sofar = begun(columns, r.at);
@@ -122,7 +122,7 @@ pub fn row_through<'s, 'a>(r: &'s mut Reader<'a>, columns: [Column; 5]) -> RowRe
 
 // The row at `at`, read through a reader.
 pub fn row(src: &[u8], at: usize, columns: [Column; 5]) -> RowRead
-    ensures { λ r. ⌜ r ≡ rowOf (rowAt columns (now (src .entry)) at) ⌝ }
+    ensures { λ r. ⌜ r ≡ rowReadOf (rowAt columns (now (src .entry)) at) ⌝ }
 {
     let mut r = reader::reader_at(src, at);
     row_through(&mut r, columns)
@@ -130,7 +130,7 @@ pub fn row(src: &[u8], at: usize, columns: [Column; 5]) -> RowRead
 
 // The row after a part of the file: where that was refused, so is the row.
 pub fn row_after(src: &[u8], before: End, columns: [Column; 5]) -> RowRead
-    ensures { λ r. ⌜ r ≡ rowOf (after before (rowAt columns (now (src .entry)))) ⌝ }
+    ensures { λ r. ⌜ r ≡ rowReadOf (after before (rowAt columns (now (src .entry)))) ⌝ }
 {
     match before {
         End::Past { next } => row(src, next, columns),

@@ -5,8 +5,8 @@
 use libc::STDOUT_FILENO;
 use report::answers::first_line;
 use report::answers::verdict_line;
-use rules::answer::Answer;
-use rules::check::check;
+use check_call::answer::Answer;
+use check_call::check::check;
 use text::lines::ROOM;
 
 // ---- a check, and what comes back

@@ -4,11 +4,11 @@ ghost use mathlib.Core.Path.{_≡_};
 ghost use Prim.Native.Nat.{_+_};
 ghost use lib.ListN.{length};
 ghost use Rattle.files.specs.Table.{mostFacts};
-use claim_checking::check::check_claim;
+use claim_check_call::check::check_claim;
 use claim_report::checked::checked_line;
+use files::header::MOST_FACTS;
 use libc::STDERR_FILENO;
 use libc::STDOUT_FILENO;
-use positions::plan::MOST_FACTS;
 use text::lines::ROOM;
 
 // Working memory for any table. The `ensures` gives its length, which lending it asks.

@@ -1,10 +1,9 @@
 -- The line of an answer of the claim check, by what the code has read of its reply: whether the number is 0.
--- Assumes nothing.
 use mathlib.Core.Path.{_≡_, sym}
 use mathlib.Core.List.{List}
 use Prim.Native.Nat.{ℕ}
 use borrow.Author.Tests.{eq-eqb, ne-eqb}
-use Rattle.rules.specs.declared.answer.Reply.{Reply}
+use Rattle.check_call.specs.declared.answer.Reply.{Reply}
 use Rattle.text.specs.Listing.{acceptedLine, claimRefusedLine}
 use Rattle.words.specs.Text.{Written}
 use Rattle.claim_report.specs.ClaimLines.{lineOfClaimReply}

@@ -1,6 +1,5 @@
 -- Two results that a contract allows are equal, the answer and every byte of the lent buffer: for each public function, of its contract as
 -- the prover reads it from the source (`Post`). Both results are the same text at the start of the same buffer.
--- Assumes nothing.
 use mathlib.Core.Path.{_≡_}
 use Prim.Native.Nat.{ℕ}
 use contract.Lifetimes.{Lfts}

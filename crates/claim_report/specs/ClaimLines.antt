@@ -6,15 +6,15 @@ use lib.Dec.{eqb}
 use Rattle.numbers.specs.Reading.{pick}
 use Rattle.text.specs.Listing.{bytesLine, acceptedLine, claimRefusedLine}
 use Rattle.report.specs.Answers.{lineOfVerdict}
-use Rattle.rules.specs.declared.answer.Reply.{Reply}
-use Rattle.claim_writing.specs.declared.answer.WriteAnswer.{WriteAnswer}
-use Rattle.claim_writing.specs.Answers.{whereWritten}
+use Rattle.check_call.specs.declared.answer.Reply.{Reply}
+use Rattle.claim_write_call.specs.declared.answer.WriteAnswer.{WriteAnswer}
+use Rattle.claim_write_call.specs.Answers.{whereWritten}
 
 -- ---- claim writing
 
 -- the verdict on a table of n threads; a refusal has no line
-abbrev pub verdictLine : ℕ → WriteAnswer → List ℕ
-verdictLine n = whereWritten (λ verdict bytes. lineOfVerdict n verdict) []
+abbrev pub writtenVerdictLine : ℕ → WriteAnswer → List ℕ
+writtenVerdictLine n = whereWritten (λ verdict bytes. lineOfVerdict n verdict) []
 
 -- how many bytes the claim takes
 abbrev pub bytesLineOf : WriteAnswer → List ℕ

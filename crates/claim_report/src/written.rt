@@ -1,11 +1,11 @@
 // The lines of an answer of claim writing: the first for any answer, and two more where a claim is written.
 ghost use Rattle.words.specs.Text.{Written};
-ghost use Rattle.claim_writing.specs.Answers.{writeReplyOf};
+ghost use Rattle.claim_write_call.specs.Answers.{writeReplyOf};
 ghost use Rattle.report.specs.Answers.{threadsOf, lineOfReply};
-ghost use Rattle.claim_report.specs.ClaimLines.{verdictLine, bytesLineOf};
-use claim_writing::answer::WriteAnswer;
-use claim_writing::answer::write_reply_of;
-use rules::answer::Answer;
+ghost use Rattle.claim_report.specs.ClaimLines.{writtenVerdictLine, bytesLineOf};
+use claim_write_call::answer::WriteAnswer;
+use claim_write_call::answer::write_reply_of;
+use check_call::answer::Answer;
 use text::lines::ROOM;
 use text::lines::facts_line;
 use text::lines::refused_line;
@@ -25,7 +25,7 @@ pub fn first_line(answer: WriteAnswer, out: &mut [u8; ROOM]) -> usize
 
 // The line of an answer's verdict. Gives its length; an answer without a verdict has no such line, and its length is 0.
 pub fn verdict_line(table: &[u8], answer: WriteAnswer, out: &mut [u8; ROOM]) -> usize
-    ensures { λ r. ⌜ Written (verdictLine (threadsOf (now (table .entry))) answer) (now (out .entry)) (now (out .exit)) r ⌝ }
+    ensures { λ r. ⌜ Written (writtenVerdictLine (threadsOf (now (table .entry))) answer) (now (out .entry)) (now (out .exit)) r ⌝ }
 {
     match answer {
         WriteAnswer::Written {
@@ -34,7 +34,7 @@ pub fn verdict_line(table: &[u8], answer: WriteAnswer, out: &mut [u8; ROOM]) -> 
             bytes: _,
         } => report::answers::verdict_line(table, Answer::Done { count, verdict }, out),
         WriteAnswer::Refused { refusal: _ } => 0,
-        WriteAnswer::Short { room: _ } => 0,
+        WriteAnswer::Short { w: _ } => 0,
         WriteAnswer::Over { budget: _ } => 0,
         WriteAnswer::NoSpace { needed: _ } => 0,
     }
@@ -51,7 +51,7 @@ pub fn bytes_line(answer: WriteAnswer, out: &mut [u8; ROOM]) -> usize
             bytes,
         } => text::lines::bytes_line(bytes, out),
         WriteAnswer::Refused { refusal: _ } => 0,
-        WriteAnswer::Short { room: _ } => 0,
+        WriteAnswer::Short { w: _ } => 0,
         WriteAnswer::Over { budget: _ } => 0,
         WriteAnswer::NoSpace { needed: _ } => 0,
     }

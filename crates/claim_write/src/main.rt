@@ -8,11 +8,11 @@ ghost use Rattle.files.specs.Table.{mostFacts};
 use claim_report::written::bytes_line;
 use claim_report::written::first_line;
 use claim_report::written::verdict_line;
-use claim_writing::answer::WriteAnswer;
-use claim_writing::write::write_claim;
+use claim_write_call::answer::WriteAnswer;
+use claim_write_call::write::write_claim;
+use files::header::MOST_FACTS;
 use libc::STDERR_FILENO;
 use libc::STDOUT_FILENO;
-use positions::plan::MOST_FACTS;
 use text::lines::ROOM;
 
 // Working memory for any table. The `ensures` gives its length, which lending it asks.

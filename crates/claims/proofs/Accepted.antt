@@ -5,7 +5,6 @@
 --     possible-never-accepted, check-possible-never-accepted     by the verdict, and by the check's answer
 --     check-safe-runs                                            what it means that the check says "safe"
 --     closed-and-safe-accepted                                   and each claim of a closed set with the start facts that allows no error is accepted
--- Assumes nothing.
 use mathlib.Core.Path.{_≡_, refl, subst⁻¹}
 use mathlib.Core.Option.{some}
 use mathlib.Core.List.{List}
@@ -24,16 +23,16 @@ use Rattle.model.specs.Claims.{Claimed, whole}
 use Rattle.model.proofs.AcceptedMeansSafe as model
 use Rattle.verdict.specs.declared.search.Verdict.the-variants as judged
 use Rattle.verdict.specs.declared.search.Verdict.the-variants.{Possible}
-use Rattle.rules.specs.declared.answer.Answer.the-variants.{Done}
-use Rattle.rules.specs.Checking as checking
-use Rattle.rules.specs.Checking.{Checked, read, done}
-use Rattle.rules.proofs.Unique.{was-read}
-use Rattle.claim_files.specs.ClaimFile.{claimAt}
-use Rattle.claim_files.proofs.ClaimIsModel.{claim-counts}
-use Rattle.claim_checking.specs.declared.answer.ClaimAnswer.the-variants.{Accepted}
-use Rattle.claim_checking.specs.ClaimChecking as claims
-use Rattle.claim_checking.specs.ClaimChecking.{Accepts, OfPositions, OfTable, claim-read, ClaimChecked}
-use Rattle.claim_checking.proofs.ClaimCases.{table-was-read, claim-was-read, answer-by-finding}
+use Rattle.check_call.specs.declared.answer.Answer.the-variants.{Done}
+use Rattle.check_call.specs.Checking as checking
+use Rattle.check_call.specs.Checking.{Checked, read, done}
+use Rattle.check_call.proofs.Unique.{was-read}
+use Rattle.claim_reader.specs.ClaimFile.{claimAt}
+use Rattle.claim_reader.proofs.ClaimIsModel.{claim-counts}
+use Rattle.claim_check_call.specs.declared.answer.ClaimAnswer.the-variants.{Accepted}
+use Rattle.claim_check_call.specs.ClaimChecking as claims
+use Rattle.claim_check_call.specs.ClaimChecking.{Accepts, OfPositions, AgainstTable, claim-read, ClaimChecked}
+use Rattle.claim_check_call.proofs.ClaimCases.{table-was-read, claim-was-read, answer-by-finding}
 use Rattle.claims.specs.Owed.{IsAccepted}
 
 -- ---- what was read
@@ -49,7 +48,7 @@ pub record AcceptedClaim (T : Table) (c m : List ℕ) (count : ℕ) (m′ : List
 accepted-positions : {T : Table} {ps m m′ : List ℕ} {count : ℕ} → OfPositions T ps m (Accepted count) m′ → (count ≡ length ps) × Accepts T ps m m′
 accepted-positions (claims.done a) = (refl, a)
 
-accepted-file : {T : Table} {c m m′ : List ℕ} {count : ℕ} → OfTable T c m (Accepted count) m′ → AcceptedClaim T c m count m′
+accepted-file : {T : Table} {c m m′ : List ℕ} {count : ℕ} → AgainstTable T c m (Accepted count) m′ → AcceptedClaim T c m count m′
 accepted-file (claim-read {ps} {next} h e o) =
     let (k, a) = accepted-positions o in
     record { positions = ps; next = next; reads = e; counted = k; accepts = a }

@@ -1,6 +1,5 @@
 -- Every case that document 01 marks with P is as the document says: one statement over the table of specs/Cases.antt, shown of the definitions alone
 -- by one computed test.
--- Assumes nothing.
 use mathlib.Core.Path.{_≡_, refl, ap}
 use mathlib.Core.Logic.{Dec·and}
 use mathlib.Core.Option.{Option, none, some, IsSome, get}
@@ -21,11 +20,11 @@ use Rattle.model.proofs.Decide.{decided, each?}
 use Rattle.model.proofs.Decide.Least.{exact?, exact-listed, exact-count, exact-verdict}
 use Rattle.model.proofs.Decide.Errors.{verdict?}
 use Rattle.model.proofs.Decide.Claims.{finding?}
-use Rattle.rules.specs.declared.answer.Reply.{Reply}
-use Rattle.rules.specs.Answers.{plain, told}
-use Rattle.claim_files.proofs.Computed.{claims}
-use Rattle.claim_checking.specs.Answers.{replyOf, answerOf}
-use Rattle.claims.specs.Cases.{Case, refused, checked, claimed, RefusedAs, Reads, CheckedAs, ClaimedAs, Shown, cases}
+use Rattle.check_call.specs.declared.answer.Reply.{Reply}
+use Rattle.check_call.specs.Answers.{plain, told}
+use Rattle.claim_reader.proofs.Computed.{claims}
+use Rattle.claim_check_call.specs.Answers.{claimReplyOf, answerOf}
+use Rattle.claims.specs.Cases.{Case, refused, checked, claimed, RefusedAs, ReadAs, CheckedAs, ClaimedAs, Shown, cases}
 
 -- ---- the test: where it passes, it gives the proof
 
@@ -52,7 +51,7 @@ unfolding given reply?
 try-refused number value (got a next) = none
 try-refused number value (bad r) = given (reply? (told 0 r) (plain number value)) some
 
-try-read : {A : Type 0} {B : A → Type 0} → ((a : A) → Option (B a)) → (o : Out A) → Option (Reads B o)
+try-read : {A : Type 0} {B : A → Type 0} → ((a : A) → Option (B a)) → (o : Out A) → Option (ReadAs B o)
 try-read try (got a next) = try a
 try-read try (bad r) = none
 
@@ -62,14 +61,14 @@ try-checked : (w count : ℕ) (facts : List Fact) (positions : List ℕ) (verdic
 unfolding given ℕ-discrete lists? decLt exact? verdict? W pos baseP baseQ
 try-checked w count facts positions verdict T =
     given (decLt 0 (T .n)) λ threads.
-    given (ℕ-discrete (W T) w) λ room.
+    given (ℕ-discrete (W T) w) λ wide.
     given (exact? T (length facts) facts) λ exact.
     given (ℕ-discrete (length facts) count) λ counted.
     given (lists? (map (pos T) facts) positions) λ standing.
     given (verdict? T threads facts verdict) λ judged.
     some
     (record {
-      room = room;
+      wide = wide;
       counted = rw counted at (exact-count exact);
       exactly = exact-listed exact;
       standing = standing;
@@ -88,7 +87,7 @@ try-claimed positions number value T ps =
     given (decLt 0 (T .n)) λ threads.
     given (lists? ps positions) λ same.
     given (finding? T threads (map (factAt T) ps) finding) λ finds.
-    given (reply? (replyOf (answerOf (length ps) finding)) (plain number value)) λ answer.
+    given (reply? (claimReplyOf (answerOf (length ps) finding)) (plain number value)) λ answer.
     some (record { same = same; finding = finding; finds = finds; answer = answer })
 
 try : (c : Case) → Option (Shown c)

@@ -1,6 +1,5 @@
 -- Which refusals change what (document 01, "What comes back": "1 to 7 change nothing; 8 to 12 set the first W bytes to 0."), by the number of each
 -- call's answer.
--- Assumes nothing.
 use mathlib.Core.Path.{_≡_, refl}
 use mathlib.Core.List.{List}
 use Prim.Native.Nat.{ℕ, _≤_}
@@ -12,18 +11,18 @@ use Rattle.numbers.specs.Reading.{got}
 use Rattle.files.specs.Table.{Table, W}
 use Rattle.files.specs.File.{tableAt}
 use Rattle.store.specs.Clearing.{Cleared}
-use Rattle.rules.specs.declared.answer.Answer.{Answer}
-use Rattle.rules.specs.Answers.{replyOf}
-use Rattle.rules.specs.Checking as check
-use Rattle.rules.specs.Checking.{Checked}
-use Rattle.claim_checking.specs.declared.answer.ClaimAnswer.{ClaimAnswer}
-use Rattle.claim_writing.specs.declared.answer.WriteAnswer.{WriteAnswer}
-use Rattle.claim_checking.specs.Answers as claim
-use Rattle.claim_checking.specs.ClaimChecking as claims
-use Rattle.claim_checking.specs.ClaimChecking.{ClaimChecked}
-use Rattle.claim_writing.specs.Answers.{writeReplyOf}
-use Rattle.claim_writing.specs.ClaimWriting as writing
-use Rattle.claim_writing.specs.ClaimWriting.{ClaimWritten}
+use Rattle.check_call.specs.declared.answer.Answer.{Answer}
+use Rattle.check_call.specs.Answers.{replyOf}
+use Rattle.check_call.specs.Checking as check
+use Rattle.check_call.specs.Checking.{Checked}
+use Rattle.claim_check_call.specs.declared.answer.ClaimAnswer.{ClaimAnswer}
+use Rattle.claim_write_call.specs.declared.answer.WriteAnswer.{WriteAnswer}
+use Rattle.claim_check_call.specs.Answers as claim
+use Rattle.claim_check_call.specs.ClaimChecking as claims
+use Rattle.claim_check_call.specs.ClaimChecking.{ClaimChecked}
+use Rattle.claim_write_call.specs.Answers.{writeReplyOf}
+use Rattle.claim_write_call.specs.ClaimWriting as writing
+use Rattle.claim_write_call.specs.ClaimWriting.{ClaimWritten}
 use Rattle.claims.specs.Owed.{Changes}
 
 unchanged : {s m : List ℕ} {number : ℕ} → number ≤ 7 → Changes s m m number
@@ -44,7 +43,7 @@ check-changes (check.read e (check.short l)) = unchanged (omega arith)
 check-changes (check.read e (check.over h x c)) = clearing (omega arith) e c
 check-changes (check.read e (check.done h f)) = finished
 
-pub claim-changes : {s c m m′ : List ℕ} {a : ClaimAnswer} → ClaimChecked s c m a m′ → Changes s m m′ (claim.replyOf a .number)
+pub claim-changes : {s c m m′ : List ℕ} {a : ClaimAnswer} → ClaimChecked s c m a m′ → Changes s m m′ (claim.claimReplyOf a .number)
 claim-changes (claims.table-refused {x} e) = refused x
 claim-changes (claims.table-read e (claims.short l)) = unchanged (omega arith)
 claim-changes (claims.table-read e (claims.claim-refused {x} h q)) = refused x

@@ -1,11 +1,10 @@
 -- What we owe: the three demands of document 00, of the calls' own contracts. Open this file first.
 --     Checked       what the check promises (rules/specs/Checking.antt)
---     ClaimChecked  what the claim check promises (claim_checking/specs/ClaimChecking.antt)
---     ClaimWritten  what claim writing promises (claim_writing/specs/ClaimWriting.antt)
+--     ClaimChecked  what the claim check promises (claim_check_call/specs/ClaimChecking.antt)
+--     ClaimWritten  what claim writing promises (claim_write_call/specs/ClaimWriting.antt)
 -- and of the demands' own words (claims/specs/Owed.antt).
 -- Each of the three functions is proved to end and to meet its contract on every input, with no `requires`. Here s is a table's file and c a
 -- claim's; m is the working memory before a call and m′ after it; d is the space for a claim, and d′ the space after the call.
--- Assumes nothing.
 use mathlib.Core.Path.{_≡_, ap}
 use mathlib.Core.List.{List, _∷_, _++_}
 use Prim.Native.Nat.{ℕ, _≤_, _<_}
@@ -17,7 +16,7 @@ use Rattle.cells.specs.Rows.{rowAt}
 use Rattle.files.specs.Table.{Table, Sound, W}
 use Rattle.files.specs.File.{tableAt}
 use Rattle.files.proofs.TableLaws.{table-sound}
-use Rattle.files.proofs.RoomLaws.{W-max}
+use Rattle.files.proofs.WLaws.{W-max}
 use Rattle.model.specs.Rules.{ClosedWithStarts}
 use Rattle.model.specs.Runs.{State, Run}
 use Rattle.model.specs.Errors as errors
@@ -28,35 +27,35 @@ use Rattle.model.proofs.FactCounts.{fact-count-exists}
 use Rattle.model.proofs.Unique.{fact-count-same}
 use Rattle.verdict.specs.declared.search.Verdict.{Verdict}
 use Rattle.verdict.specs.declared.search.Verdict.the-variants.{Safe, Possible}
-use Rattle.rules.specs.declared.answer.Answer.{Answer}
-use Rattle.rules.specs.declared.answer.Answer.the-variants.{Done, Over}
-use Rattle.rules.specs.Answers.{plain, replyOf}
-use Rattle.rules.specs.Checking.{Checked, CheckDone}
-use Rattle.rules.proofs.Unique.{checked-same, checked-answer}
-use Rattle.rules.proofs.Exactly.{check-done, finishes-within, refused-beyond, done-with-W, budget-0-refused}
-use Rattle.rules.proofs.Answered.{check-answered}
-use Rattle.claim_files.specs.ClaimFile.{claimAt, claimBytes, Ascending}
-use Rattle.claim_files.proofs.RoundTrip.{claim-ascending, claim-back, claim-one}
-use Rattle.claim_checking.specs.declared.answer.ClaimAnswer.{ClaimAnswer}
-use Rattle.claim_checking.specs.declared.answer.ClaimAnswer.the-variants.{Accepted}
-use Rattle.claim_writing.specs.declared.answer.WriteAnswer.{WriteAnswer}
-use Rattle.claim_writing.specs.declared.answer.WriteAnswer.the-variants.{Written}
-use Rattle.claim_checking.specs.Answers as claim
-use Rattle.claim_checking.specs.ClaimChecking.{OfPositions, ClaimChecked}
-use Rattle.claim_writing.specs.Answers.{writeReplyOf}
-use Rattle.claim_writing.specs.ClaimWriting.{ClaimOf, ClaimWritten}
-use Rattle.claim_writing.specs.ReadBack.{WrittenClaim}
+use Rattle.check_call.specs.declared.answer.Answer.{Answer}
+use Rattle.check_call.specs.declared.answer.Answer.the-variants.{Done, Over}
+use Rattle.check_call.specs.Answers.{plain, replyOf}
+use Rattle.check_call.specs.Checking.{Checked, CheckDone}
+use Rattle.check_call.proofs.Unique.{checked-same, checked-answer}
+use Rattle.check_call.proofs.Exactly.{check-done, finishes-within, refused-beyond, done-with-W, budget-0-refused}
+use Rattle.check_call.proofs.Answered.{check-answered}
+use Rattle.claim_reader.specs.ClaimFile.{claimAt, claimBytes, AscendingBelow}
+use Rattle.claim_reader.proofs.RoundTrip.{claim-ascending, claim-back, claim-one}
+use Rattle.claim_check_call.specs.declared.answer.ClaimAnswer.{ClaimAnswer}
+use Rattle.claim_check_call.specs.declared.answer.ClaimAnswer.the-variants.{Accepted}
+use Rattle.claim_write_call.specs.declared.answer.WriteAnswer.{WriteAnswer}
+use Rattle.claim_write_call.specs.declared.answer.WriteAnswer.the-variants.{Written}
+use Rattle.claim_check_call.specs.Answers as claim
+use Rattle.claim_check_call.specs.ClaimChecking.{OfPositions, ClaimChecked}
+use Rattle.claim_write_call.specs.Answers.{writeReplyOf}
+use Rattle.claim_write_call.specs.ClaimWriting.{ClaimOf, ClaimWritten}
+use Rattle.claim_write_call.specs.ReadBack.{WrittenClaim}
 use Rattle.claims.specs.Owed.{Changes, RowDue, IsAccepted, RoomForClaim}
 use Rattle.claims.proofs.OutOfRange.{out-of-range, check-refused, claim-refused, write-refused}
 use Rattle.claims.proofs.Changes.{check-changes, claim-changes, write-changes}
-use Rattle.claim_checking.proofs.ClaimCases.{table-was-read, claim-was-read}
+use Rattle.claim_check_call.proofs.ClaimCases.{table-was-read, claim-was-read}
 use Rattle.claims.proofs.Accepted as accepting
 use Rattle.claims.proofs.OwnClaims.{safe-accepted, safe-written}
-use Rattle.claim_writing.proofs.WrittenLaws.{written-claim, claim-one-to-one}
-use Rattle.claim_checking.proofs.Unique.{claim-checked-same, claim-answer-same}
-use Rattle.claim_checking.proofs.Answered.{claim-check-answered}
-use Rattle.claim_writing.proofs.Unique.{claim-written-same, claim-written-answer}
-use Rattle.claim_writing.proofs.Answered.{claim-writing-answered}
+use Rattle.claim_write_call.proofs.WrittenLaws.{written-claim, claim-one-to-one}
+use Rattle.claim_check_call.proofs.Unique.{claim-checked-same, claim-answer-same}
+use Rattle.claim_check_call.proofs.Answered.{claim-check-answered}
+use Rattle.claim_write_call.proofs.Unique.{claim-written-same, claim-written-answer}
+use Rattle.claim_write_call.proofs.Answered.{claim-writing-answered}
 
 -- ---- Demand 1: an answer, always
 
@@ -83,8 +82,8 @@ module _ {s : List ℕ} (before : List Column) (c : Column) (after : List Column
   pub check-refuses-out-of-range : {budget : ℕ} {m m′ : List ℕ} {a : Answer} → Checked s budget m a m′ → replyOf a ≡ plain 4 p
   check-refuses-out-of-range h = ap replyOf (check-refused (out-of-range before c after due cells number out) h)
 
-  pub claim-check-refuses-out-of-range : {claimed m m′ : List ℕ} {a : ClaimAnswer} → ClaimChecked s claimed m a m′ → claim.replyOf a ≡ plain 4 p
-  claim-check-refuses-out-of-range h = ap claim.replyOf (claim-refused (out-of-range before c after due cells number out) h)
+  pub claim-check-refuses-out-of-range : {claimed m m′ : List ℕ} {a : ClaimAnswer} → ClaimChecked s claimed m a m′ → claim.claimReplyOf a ≡ plain 4 p
+  claim-check-refuses-out-of-range h = ap claim.claimReplyOf (claim-refused (out-of-range before c after due cells number out) h)
 
   pub claim-writing-refuses-out-of-range : {budget : ℕ} {m d m′ d′ : List ℕ} {a : WriteAnswer} → ClaimWritten s budget m d a m′ d′
       → writeReplyOf a ≡ plain 4 p
@@ -112,7 +111,7 @@ module _ {s : List ℕ} where
     claim-check-whatever-held = claim-answer-same
 
   -- 9, 10 and 11 clear
-  pub claim-check-leaves : {c m m′ : List ℕ} {a : ClaimAnswer} → ClaimChecked s c m a m′ → Changes s m m′ (claim.replyOf a .number)
+  pub claim-check-leaves : {c m m′ : List ℕ} {a : ClaimAnswer} → ClaimChecked s c m a m′ → Changes s m m′ (claim.claimReplyOf a .number)
   claim-check-leaves = claim-changes
 
   module _ {budget : ℕ} {m d m₁ m₂ d₁ d₂ : List ℕ} {a b : WriteAnswer} where
@@ -176,10 +175,10 @@ closed-and-safe-is-accepted = accepting.closed-and-safe-accepted
 
 -- Reading claims follows the layout exactly, whoever wrote them: positions that are read ascend and are below W; the claim of ascending positions
 -- below W is read as these; and no other file is read as them.
-pub claim-positions-ascend : (w : ℕ) (c ps : List ℕ) (next : ℕ) → claimAt w c ≡ got ps next → Ascending w ps
+pub claim-positions-ascend : (w : ℕ) (c ps : List ℕ) (next : ℕ) → claimAt w c ≡ got ps next → AscendingBelow w ps
 claim-positions-ascend = claim-ascending
 
-pub every-claim-is-read : {T : Table} → Sound T → (ps : List ℕ) → Ascending (W T) ps → claimAt (W T) (claimBytes ps) ≡ got ps (length (claimBytes ps))
+pub every-claim-is-read : {T : Table} → Sound T → (ps : List ℕ) → AscendingBelow (W T) ps → claimAt (W T) (claimBytes ps) ≡ got ps (length (claimBytes ps))
 every-claim-is-read {T} sound ps = claim-back (W T) ps (W-max T sound)
 
 -- c is a file's bytes

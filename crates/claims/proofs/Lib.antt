@@ -6,6 +6,7 @@
 --   Accepted   what it means that a claim is accepted
 --   OwnClaims  what the check calls safe, claim writing writes, and the claim check accepts
 --   Cases      document 01's cases marked P, as one table and one statement
+--   Simple     document 01's training table and its mutex: their facts and verdicts
 pub mod Demands
 pub mod Numbers
 pub mod OutOfRange
@@ -13,3 +14,4 @@ pub mod Changes
 pub mod Accepted
 pub mod OwnClaims
 pub mod Cases
+pub mod Simple

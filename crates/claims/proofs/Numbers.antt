@@ -12,21 +12,21 @@ use Rattle.numbers.specs.Refusals.{toldOf}
 use Rattle.numbers.proofs.RefusalLaws.{told-from-1}
 use Rattle.verdict.specs.declared.search.Verdict.{Verdict}
 use Rattle.verdict.specs.declared.search.Verdict.the-variants.{Safe, Possible}
-use Rattle.rules.specs.declared.answer.Answer.{Answer}
-use Rattle.rules.specs.declared.answer.Answer.the-variants as check
-use Rattle.rules.specs.Answers.{replyOf}
-use Rattle.rules.specs.Checking.{Checked, CheckDone}
-use Rattle.rules.proofs.Exactly.{check-done}
-use Rattle.claim_checking.specs.declared.answer.ClaimAnswer.{ClaimAnswer}
-use Rattle.claim_checking.specs.declared.answer.ClaimAnswer.the-variants as claim
-use Rattle.claim_checking.specs.Answers as claim-answers
-use Rattle.claim_checking.specs.ClaimChecking.{ClaimChecked, table-read}
-use Rattle.claim_writing.specs.declared.answer.WriteAnswer.{WriteAnswer}
-use Rattle.claim_writing.specs.declared.answer.WriteAnswer.the-variants as write
-use Rattle.claim_writing.specs.Answers.{writeReplyOf}
-use Rattle.claim_writing.specs.ClaimWriting.{ClaimWritten}
-use Rattle.claim_writing.specs.ReadBack.{WrittenClaim}
-use Rattle.claim_writing.proofs.WrittenLaws.{written-claim}
+use Rattle.check_call.specs.declared.answer.Answer.{Answer}
+use Rattle.check_call.specs.declared.answer.Answer.the-variants as check
+use Rattle.check_call.specs.Answers.{replyOf}
+use Rattle.check_call.specs.Checking.{Checked, CheckDone}
+use Rattle.check_call.proofs.Exactly.{check-done}
+use Rattle.claim_check_call.specs.declared.answer.ClaimAnswer.{ClaimAnswer}
+use Rattle.claim_check_call.specs.declared.answer.ClaimAnswer.the-variants as claim
+use Rattle.claim_check_call.specs.Answers as claim-answers
+use Rattle.claim_check_call.specs.ClaimChecking.{ClaimChecked, table-read}
+use Rattle.claim_write_call.specs.declared.answer.WriteAnswer.{WriteAnswer}
+use Rattle.claim_write_call.specs.declared.answer.WriteAnswer.the-variants as write
+use Rattle.claim_write_call.specs.Answers.{writeReplyOf}
+use Rattle.claim_write_call.specs.ClaimWriting.{ClaimWritten}
+use Rattle.claim_write_call.specs.ReadBack.{WrittenClaim}
+use Rattle.claim_write_call.proofs.WrittenLaws.{written-claim}
 use Rattle.claims.specs.Owed.{RunsSafely}
 use Rattle.claims.specs.Meanings as meaning
 use Rattle.claims.specs.Meanings.{Meaning, numberOf, refusalMeans, checkMeans, claimMeans, writeMeans}
@@ -76,13 +76,13 @@ refusal-means (refusal.After at) = refl
 pub check-means : (a : Answer) → replyOf a .number ≡ numberOf (checkMeans a)
 check-means (check.Done count verdict) = refl
 check-means (check.Refused r) = refusal-means r
-check-means (check.Short room) = refl
+check-means (check.Short w) = refl
 check-means (check.Over budget) = refl
 
-pub claim-means : (a : ClaimAnswer) → claim-answers.replyOf a .number ≡ numberOf (claimMeans a)
+pub claim-means : (a : ClaimAnswer) → claim-answers.claimReplyOf a .number ≡ numberOf (claimMeans a)
 claim-means (claim.Accepted count) = refl
 claim-means (claim.TableRefused r) = refusal-means r
-claim-means (claim.Short room) = refl
+claim-means (claim.Short w) = refl
 claim-means (claim.ClaimRefused r) = refusal-means r
 claim-means (claim.LacksStart thread) = refl
 claim-means (claim.NotClosed position) = refl
@@ -91,7 +91,7 @@ claim-means (claim.AllowsError row) = refl
 pub write-means : (a : WriteAnswer) → writeReplyOf a .number ≡ numberOf (writeMeans a)
 write-means (write.Written count verdict bytes) = refl
 write-means (write.Refused r) = refusal-means r
-write-means (write.Short room) = refl
+write-means (write.Short w) = refl
 write-means (write.Over budget) = refl
 write-means (write.NoSpace needed) = refl
 
@@ -103,13 +103,13 @@ no-refusal r e = absurd (omega (arith, told-from-1 r))
 pub check-0 : (a : Answer) → replyOf a .number ≡ 0 → (count : ℕ) × (verdict : Verdict) × (a ≡ check.Done count verdict)
 check-0 (check.Done count verdict) e = (count, verdict, refl)
 check-0 (check.Refused r) e = no-refusal r e
-check-0 (check.Short room) e = absurd (omega arith)
+check-0 (check.Short w) e = absurd (omega arith)
 check-0 (check.Over budget) e = absurd (omega arith)
 
-pub claim-0 : (a : ClaimAnswer) → claim-answers.replyOf a .number ≡ 0 → (count : ℕ) × (a ≡ claim.Accepted count)
+pub claim-0 : (a : ClaimAnswer) → claim-answers.claimReplyOf a .number ≡ 0 → (count : ℕ) × (a ≡ claim.Accepted count)
 claim-0 (claim.Accepted count) e = (count, refl)
 claim-0 (claim.TableRefused r) e = no-refusal r e
-claim-0 (claim.Short room) e = absurd (omega arith)
+claim-0 (claim.Short w) e = absurd (omega arith)
 claim-0 (claim.ClaimRefused r) e = no-refusal r e
 claim-0 (claim.LacksStart thread) e = absurd (omega arith)
 claim-0 (claim.NotClosed position) e = absurd (omega arith)
@@ -119,7 +119,7 @@ pub write-0 : (a : WriteAnswer) → writeReplyOf a .number ≡ 0
     → (count : ℕ) × (verdict : Verdict) × (bytes : ℕ) × (a ≡ write.Written count verdict bytes)
 write-0 (write.Written count verdict bytes) e = (count, verdict, bytes, refl)
 write-0 (write.Refused r) e = no-refusal r e
-write-0 (write.Short room) e = absurd (omega arith)
+write-0 (write.Short w) e = absurd (omega arith)
 write-0 (write.Over budget) e = absurd (omega arith)
 write-0 (write.NoSpace needed) e = absurd (omega arith)
 
@@ -127,7 +127,7 @@ write-0 (write.NoSpace needed) e = absurd (omega arith)
 pub done-0 : (count : ℕ) (verdict : Verdict) → replyOf (check.Done count verdict) .number ≡ 0
 done-0 count verdict = refl
 
-pub accepted-0 : (count : ℕ) → claim-answers.replyOf (claim.Accepted count) .number ≡ 0
+pub accepted-0 : (count : ℕ) → claim-answers.claimReplyOf (claim.Accepted count) .number ≡ 0
 accepted-0 count = refl
 
 pub written-0 : (count : ℕ) (verdict : Verdict) (bytes : ℕ) → writeReplyOf (write.Written count verdict bytes) .number ≡ 0
@@ -164,7 +164,7 @@ write-0-exactly {s} {budget} {m} {d} {m′} {d′} {a} h e = by (write-0 a e)
 -- ---- demand 3, where the number is 0
 
 -- a claim from anyone's tool is answered with 0: no run of the table meets an error state
-pub claim-0-safe : {s c m m′ : List ℕ} {a : ClaimAnswer} → ClaimChecked s c m a m′ → claim-answers.replyOf a .number ≡ 0 → RunsSafely s
+pub claim-0-safe : {s c m m′ : List ℕ} {a : ClaimAnswer} → ClaimChecked s c m a m′ → claim-answers.claimReplyOf a .number ≡ 0 → RunsSafely s
 claim-0-safe {s} {c} {m} {m′} {a} h e = by (claim-0 a e)
   where
     read : {count : ℕ} → ClaimChecked s c m (claim.Accepted count) m′ → RunsSafely s
@@ -179,9 +179,9 @@ check-safe h = let d = check-done h in record { table = d .table; next = d .next
 
 -- where it answers 0 with the verdict possible, no claim for the table is answered with 0
 pub possible-never-0 : {s c : List ℕ} {budget : ℕ} {m m′ k k′ : List ℕ} {count row g l0 l1 l2 l3 : ℕ} {a : ClaimAnswer}
-    → Checked s budget k (check.Done count (Possible row g l0 l1 l2 l3)) k′ → ClaimChecked s c m a m′ → 1 ≤ claim-answers.replyOf a .number
-possible-never-0 {s} {c} {m = m} {m′} {a = a} d h = by (claim-answers.replyOf a .number) refl
+    → Checked s budget k (check.Done count (Possible row g l0 l1 l2 l3)) k′ → ClaimChecked s c m a m′ → 1 ≤ claim-answers.claimReplyOf a .number
+possible-never-0 {s} {c} {m = m} {m′} {a = a} d h = by (claim-answers.claimReplyOf a .number) refl
   where
-    by : (k : ℕ) → claim-answers.replyOf a .number ≡ k → 1 ≤ k
+    by : (k : ℕ) → claim-answers.claimReplyOf a .number ≡ k → 1 ≤ k
     by zero e = let (count, is) = claim-0 a e in absurd (check-possible-never-accepted d (subst (λ (b : ClaimAnswer). ClaimChecked s c m b m′) is h))
     by (suc k) e = omega arith

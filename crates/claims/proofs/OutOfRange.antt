@@ -18,18 +18,18 @@ use Rattle.lists.proofs.ListStops.{list-row-refused}
 use Rattle.files.specs.declared.header.Header.{Header}
 use Rattle.files.specs.File.{tableAt}
 use Rattle.files.proofs.TableStops.{sizes-refused, places-refused, locals-refused, steps-refused, pushes-refused, pops-refused, errors-refused}
-use Rattle.rules.specs.declared.answer.Answer.{Answer}
-use Rattle.rules.specs.declared.answer.Answer.the-variants as check
-use Rattle.rules.specs.Checking as checking
-use Rattle.rules.specs.Checking.{Checked}
-use Rattle.rules.proofs.Unique.{bad-refusal}
-use Rattle.claim_checking.specs.declared.answer.ClaimAnswer.{ClaimAnswer}
-use Rattle.claim_checking.specs.declared.answer.ClaimAnswer.the-variants as claim
-use Rattle.claim_checking.specs.ClaimChecking.{ClaimChecked, table-refused, table-read}
-use Rattle.claim_writing.specs.declared.answer.WriteAnswer.{WriteAnswer}
-use Rattle.claim_writing.specs.declared.answer.WriteAnswer.the-variants as write
-use Rattle.claim_writing.specs.ClaimWriting as writing
-use Rattle.claim_writing.specs.ClaimWriting.{ClaimWritten}
+use Rattle.check_call.specs.declared.answer.Answer.{Answer}
+use Rattle.check_call.specs.declared.answer.Answer.the-variants as check
+use Rattle.check_call.specs.Checking as checking
+use Rattle.check_call.specs.Checking.{Checked}
+use Rattle.check_call.proofs.Unique.{bad-refusal}
+use Rattle.claim_check_call.specs.declared.answer.ClaimAnswer.{ClaimAnswer}
+use Rattle.claim_check_call.specs.declared.answer.ClaimAnswer.the-variants as claim
+use Rattle.claim_check_call.specs.ClaimChecking.{ClaimChecked, table-refused, table-read}
+use Rattle.claim_write_call.specs.declared.answer.WriteAnswer.{WriteAnswer}
+use Rattle.claim_write_call.specs.declared.answer.WriteAnswer.the-variants as write
+use Rattle.claim_write_call.specs.ClaimWriting as writing
+use Rattle.claim_write_call.specs.ClaimWriting.{ClaimWritten}
 use Rattle.claims.specs.Owed.{
   mostRows,
   columnsOf,

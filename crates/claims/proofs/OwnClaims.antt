@@ -4,7 +4,6 @@
 --     done-is-written    where the check is done and there is room, the claim is written, with the check's count and verdict
 --     safe-accepted      a claim that was written with the verdict "safe" is accepted
 --     safe-written       both
--- Assumes nothing.
 use mathlib.Core.Path.{_≡_, sym, ap, subst, subst⁻¹, _∙_}
 use mathlib.Core.List.{List}
 use Prim.Native.Nat.{ℕ, _≤_}
@@ -16,16 +15,16 @@ use Rattle.files.specs.Table.{Table, W}
 use Rattle.files.specs.File.{tableAt}
 use Rattle.verdict.specs.declared.search.Verdict.{Verdict}
 use Rattle.verdict.specs.declared.search.Verdict.the-variants.{Safe}
-use Rattle.rules.specs.declared.answer.Answer.the-variants.{Done}
-use Rattle.rules.specs.Checking.{Checked}
-use Rattle.rules.proofs.Unique.{got-table}
-use Rattle.rules.proofs.Exactly.{done-again}
-use Rattle.claim_checking.specs.declared.answer.ClaimAnswer.the-variants.{Accepted}
-use Rattle.claim_checking.proofs.ClaimCases.{table-was-read, claim-was-read, answer-by-finding}
-use Rattle.claim_writing.specs.declared.answer.WriteAnswer.{WriteAnswer}
-use Rattle.claim_writing.specs.declared.answer.WriteAnswer.the-variants.{Written}
-use Rattle.claim_writing.specs.ClaimWriting.{ClaimOf, ClaimWritten, refused, short, over, no-space, written}
-use Rattle.claim_writing.proofs.WrittenLaws.{written-claim, safe-claim-accepted}
+use Rattle.check_call.specs.declared.answer.Answer.the-variants.{Done}
+use Rattle.check_call.specs.Checking.{Checked}
+use Rattle.check_call.proofs.Unique.{got-table}
+use Rattle.check_call.proofs.Exactly.{done-again}
+use Rattle.claim_check_call.specs.declared.answer.ClaimAnswer.the-variants.{Accepted}
+use Rattle.claim_check_call.proofs.ClaimCases.{table-was-read, claim-was-read, answer-by-finding}
+use Rattle.claim_write_call.specs.declared.answer.WriteAnswer.{WriteAnswer}
+use Rattle.claim_write_call.specs.declared.answer.WriteAnswer.the-variants.{Written}
+use Rattle.claim_write_call.specs.ClaimWriting.{ClaimOf, ClaimWritten, refused, short, over, no-space, written}
+use Rattle.claim_write_call.proofs.WrittenLaws.{written-claim, safe-claim-accepted}
 use Rattle.claims.specs.Owed.{IsAccepted, RoomForClaim}
 
 done-parts : {count count′ : ℕ} {verdict verdict′ : Verdict} → Done count verdict ≡ Done count′ verdict′ → (count ≡ count′) × (verdict ≡ verdict′)

@@ -18,9 +18,9 @@ use Rattle.model.specs.Verdict.{Verdict}
 use Rattle.model.specs.Positions.{pos}
 use Rattle.model.specs.Memory.{FactCount}
 use Rattle.model.specs.Claims.{Claimed, Finding, Finds}
-use Rattle.rules.specs.Answers.{plain, told}
-use Rattle.claim_files.specs.ClaimFile.{claimAt}
-use Rattle.claim_checking.specs.Answers.{replyOf, answerOf}
+use Rattle.check_call.specs.Answers.{plain, told}
+use Rattle.claim_reader.specs.ClaimFile.{claimAt}
+use Rattle.claim_check_call.specs.Answers.{claimReplyOf, answerOf}
 
 -- ---- what a case says
 
@@ -42,13 +42,13 @@ RefusedAs number value (got a next) = ⊥
 RefusedAs number value (bad r) = told 0 r ≡ plain number value
 
 -- a file is read, and what was read is in B
-abbrev pub Reads : {A : Type 0} → (A → Type 0) → Out A → Type 0
-Reads B (got a next) = B a
-Reads B (bad r) = ⊥
+abbrev pub ReadAs : {A : Type 0} → (A → Type 0) → Out A → Type 0
+ReadAs B (got a next) = B a
+ReadAs B (bad r) = ⊥
 
 -- of a table: its W, and of the least relations their number of facts, that they hold these facts and no others, where these stand, and the verdict
 pub record CheckedAs (w count : ℕ) (facts : List Fact) (positions : List ℕ) (verdict : Option Witness) (T : Table) : Type 0 where
-  pub room : W T ≡ w
+  pub wide : W T ≡ w
   pub counted : FactCount T count
   pub exactly : (f : Fact) → Derives T f ↔ List·Memᴰ f facts
   pub standing : map (pos T) facts ≡ positions
@@ -59,14 +59,14 @@ pub record ClaimedAs (positions : List ℕ) (number value : ℕ) (T : Table) (ps
   pub same : ps ≡ positions
   pub finding : Finding
   pub finds : Finds T (Claimed T ps) finding
-  pub answer : replyOf (answerOf (length ps) finding) ≡ plain number value
+  pub answer : claimReplyOf (answerOf (length ps) finding) ≡ plain number value
 
 -- a case is as the document says, by what the definitions read the two files as ("The cases marked P are shown of the definitions by a single table
 -- and one statement", "How sharp the contracts are")
 abbrev pub Shown : Case → Type 0
 Shown (refused s number value) = RefusedAs number value (tableAt s)
-Shown (checked s w count facts positions verdict) = Reads (CheckedAs w count facts positions verdict) (tableAt s)
-Shown (claimed s c positions number value) = Reads (λ T. Reads (ClaimedAs positions number value T) (claimAt (W T) c)) (tableAt s)
+Shown (checked s w count facts positions verdict) = ReadAs (CheckedAs w count facts positions verdict) (tableAt s)
+Shown (claimed s c positions number value) = ReadAs (λ T. ReadAs (ClaimedAs positions number value T) (claimAt (W T) c)) (tableAt s)
 
 -- ---- the cases
 

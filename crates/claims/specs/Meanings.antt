@@ -5,12 +5,12 @@
 use Prim.Native.Nat.{ℕ}
 use Rattle.numbers.specs.declared.refusals.Refusal.{Refusal}
 use Rattle.numbers.specs.declared.refusals.Refusal.the-variants as refusal
-use Rattle.rules.specs.declared.answer.Answer.{Answer}
-use Rattle.rules.specs.declared.answer.Answer.the-variants as check
-use Rattle.claim_checking.specs.declared.answer.ClaimAnswer.{ClaimAnswer}
-use Rattle.claim_checking.specs.declared.answer.ClaimAnswer.the-variants as claim
-use Rattle.claim_writing.specs.declared.answer.WriteAnswer.{WriteAnswer}
-use Rattle.claim_writing.specs.declared.answer.WriteAnswer.the-variants as write
+use Rattle.check_call.specs.declared.answer.Answer.{Answer}
+use Rattle.check_call.specs.declared.answer.Answer.the-variants as check
+use Rattle.claim_check_call.specs.declared.answer.ClaimAnswer.{ClaimAnswer}
+use Rattle.claim_check_call.specs.declared.answer.ClaimAnswer.the-variants as claim
+use Rattle.claim_write_call.specs.declared.answer.WriteAnswer.{WriteAnswer}
+use Rattle.claim_write_call.specs.declared.answer.WriteAnswer.the-variants as write
 
 pub data Meaning : Type 0 where
   done : Meaning
@@ -54,13 +54,13 @@ refusalMeans (refusal.After at) = bytes-after
 abbrev pub checkMeans : Answer → Meaning
 checkMeans (check.Done count verdict) = done
 checkMeans (check.Refused r) = refusalMeans r
-checkMeans (check.Short room) = short
+checkMeans (check.Short w) = short
 checkMeans (check.Over budget) = over
 
 abbrev pub claimMeans : ClaimAnswer → Meaning
 claimMeans (claim.Accepted count) = done
 claimMeans (claim.TableRefused r) = refusalMeans r
-claimMeans (claim.Short room) = short
+claimMeans (claim.Short w) = short
 claimMeans (claim.ClaimRefused r) = refusalMeans r
 claimMeans (claim.LacksStart thread) = lacks-start
 claimMeans (claim.NotClosed position) = not-closed
@@ -69,6 +69,6 @@ claimMeans (claim.AllowsError row) = allows-error
 abbrev pub writeMeans : WriteAnswer → Meaning
 writeMeans (write.Written count verdict bytes) = done
 writeMeans (write.Refused r) = refusalMeans r
-writeMeans (write.Short room) = short
+writeMeans (write.Short w) = short
 writeMeans (write.Over budget) = over
 writeMeans (write.NoSpace needed) = no-space

@@ -22,10 +22,10 @@ use Rattle.files.specs.File.{tableAt}
 use Rattle.model.specs.Runs.{State, Run}
 use Rattle.model.specs.Errors.{ErrorState}
 use Rattle.store.specs.Clearing.{Cleared}
-use Rattle.claim_checking.specs.declared.answer.ClaimAnswer.{ClaimAnswer}
-use Rattle.claim_checking.specs.declared.answer.ClaimAnswer.the-variants.{Accepted}
-use Rattle.claim_checking.specs.ClaimChecking.{ClaimChecked}
-use Rattle.claim_writing.specs.ClaimWriting.{ClaimOf}
+use Rattle.claim_check_call.specs.declared.answer.ClaimAnswer.{ClaimAnswer}
+use Rattle.claim_check_call.specs.declared.answer.ClaimAnswer.the-variants.{Accepted}
+use Rattle.claim_check_call.specs.ClaimChecking.{ClaimChecked}
+use Rattle.claim_write_call.specs.ClaimWriting.{ClaimOf}
 
 -- ---- demand 1
 

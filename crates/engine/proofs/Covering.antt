@@ -1,6 +1,5 @@
 -- How work under way goes on: with a pass over more uses, with other names for the same uses, and to a round that begins anew. Each law has two
 -- sides, as those of passes have.
--- Assumes nothing.
 use mathlib.Core.Path.{_≡_, refl, subst, _∙_}
 use mathlib.Core.Bool.{Bool, true, false}
 use mathlib.Core.Logic.{_⊎_, inl, inr}

@@ -1,6 +1,5 @@
 -- A memory that marks so many facts, all of them derivable. Every put of a rule keeps it so, with one more mark. If there are more marks than
 -- the budget, the budget is exceeded; if nothing lacks and the start facts are marked, the memory holds the least relations.
--- Assumes nothing.
 use mathlib.Core.Path.{_≡_, refl, sym, subst, _∙_}
 use mathlib.Core.List.{List}
 use Prim.Native.Nat.{ℕ, suc, _+_, _<_, _≤_}

@@ -1,7 +1,6 @@
 -- The contracts determine what is answered: two answers of a run on one table and one budget are equal, with every byte of the memory, and so
 -- are two smallest missing positions. Within the budget and over it exclude each other, since a memory that exceeds the budget marks no more
 -- than the derivable facts.
--- Assumes nothing.
 use mathlib.Core.Path.{_≡_, refl, sym, ap, _∙_}
 use mathlib.Core.List.{List}
 use Prim.Native.Nat.{ℕ}

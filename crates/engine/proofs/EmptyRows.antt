@@ -1,5 +1,4 @@
 -- A row of facts with no mark gives nothing: each use on it has a premise in it.
--- Assumes nothing.
 use mathlib.Core.Path.{_≡_, refl, sym, ap, subst}
 use mathlib.Core.Bool.{Bool}
 use mathlib.Core.Logic.{inl, inr}

@@ -1,6 +1,5 @@
 -- What a run comes to, from a clear memory Z: the start facts are marked in it, and the rules put marks until nothing lacks or none is left. The
 -- marks and what is left are together one more than the budget, all along.
--- Assumes nothing.
 use mathlib.Core.Path.{_≡_, refl, sym, subst, _∙_}
 use mathlib.Core.Bool.{true, false}
 use mathlib.Core.Logic.{_⊎_, inl, inr}

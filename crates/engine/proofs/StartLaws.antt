@@ -1,6 +1,5 @@
 -- The memory with the start facts. They stand one after the other, each in its own thread's part of the P facts, so each put is a new mark:
 -- from a clear memory there are as many marks as threads.
--- Assumes nothing.
 use mathlib.Core.Path.{_≡_, refl, sym, ap, subst, _∙_}
 use mathlib.Core.List.{List}
 use Prim.Native.Nat.{ℕ, zero, suc, _+_, _*_, _<_, _≤_}

@@ -1,5 +1,4 @@
 -- The turns: what the first one is, what follows on one, and that the last ends the work.
--- Assumes nothing.
 use mathlib.Core.Path.{_≡_, refl, sym, subst}
 use mathlib.Core.Bool.{Bool}
 use mathlib.Core.Logic.{inl, inr}

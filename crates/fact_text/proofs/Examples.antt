@@ -1,5 +1,4 @@
 -- The lines of facts that the document prints are those of the definitions, by computation.
--- Assumes nothing.
 use mathlib.Core.Path.{_≡_, refl}
 use mathlib.Core.List.{_++_}
 use Rattle.model.specs.Rules.{G, P, Q}

@@ -1,5 +1,4 @@
 -- The numbers of the line of a fact, by its fields.
--- Assumes nothing.
 use mathlib.Core.Path.{_≡_, refl, sym}
 use mathlib.Core.List.{List}
 use Prim.Native.Nat.{ℕ}

@@ -1,6 +1,5 @@
 -- Two results that a contract allows are equal, the answer and every byte of the lent buffer: for each public function, of its contract as
 -- the prover reads it from the source (`Post`).
--- Assumes nothing.
 use mathlib.Core.Path.{_≡_, sym, _∙_}
 use contract.Lifetimes.{Lfts}
 use denote.Ref.{now}

@@ -9,8 +9,8 @@ use Rattle.fact_text.specs.declared.facts.FactFields.{FactFields}
 use Rattle.fact_text.specs.declared.facts.FactFields.the-variants as fields
 
 -- A table with a plan's sizes and nothing else. What stands at a position hangs on the sizes alone, so it serves for any table of the plan.
-abbrev pub sizesOf : Plan → Table
-sizesOf s =
+abbrev pub bareTable : Plan → Table
+bareTable s =
     record {
       n = s .n;
       G = s .g;
@@ -27,7 +27,7 @@ sizesOf s =
 
 -- the fact at position p
 abbrev pub planFact : Plan → ℕ → Fact
-planFact s p = factAt (sizesOf s) p
+planFact s p = factAt (bareTable s) p
 
 -- a fact as the code answers it
 abbrev pub fieldsOf : Fact → FactFields

@@ -3,7 +3,7 @@ ghost use mathlib.Core.Path.{_≡_};
 ghost use Prim.Native.Nat.{_<_};
 ghost use Rattle.model.specs.Positions.{atG, atP, atQ};
 ghost use Rattle.positions.specs.Plans.{Planned};
-ghost use Rattle.fact_text.specs.Facts.{sizesOf, planFact, fieldsOf};
+ghost use Rattle.fact_text.specs.Facts.{bareTable, planFact, fieldsOf};
 use positions::plan::Plan;
 
 // A fact: its kind, and its fields in the document's order.
@@ -33,7 +33,7 @@ pub enum FactFields {
 // G fact number i, counted from 0.
 fn g_fact(s: Plan, i: usize) -> FactFields
     requires { ⌜ Planned s ⌝ }
-    ensures { λ r. ⌜ r ≡ fieldsOf (atG (sizesOf s) i) ⌝ }
+    ensures { λ r. ⌜ r ≡ fieldsOf (atG (bareTable s) i) ⌝ }
 {
     let shared = s.g;
     let a = i / shared;
@@ -46,7 +46,7 @@ fn g_fact(s: Plan, i: usize) -> FactFields
 // P fact number i, counted from 0.
 fn p_fact(s: Plan, i: usize) -> FactFields
     requires { ⌜ Planned s ⌝ }
-    ensures { λ r. ⌜ r ≡ fieldsOf (atP (sizesOf s) i) ⌝ }
+    ensures { λ r. ⌜ r ≡ fieldsOf (atP (bareTable s) i) ⌝ }
 {
     let shared = s.g;
     let local = s.l;
@@ -64,7 +64,7 @@ fn p_fact(s: Plan, i: usize) -> FactFields
 // Q fact number i, counted from 0.
 fn q_fact(s: Plan, i: usize) -> FactFields
     requires { ⌜ Planned s × (0 < s .f) ⌝ }
-    ensures { λ r. ⌜ r ≡ fieldsOf (atQ (sizesOf s) i) ⌝ }
+    ensures { λ r. ⌜ r ≡ fieldsOf (atQ (bareTable s) i) ⌝ }
 {
     let shared = s.g;
     let local = s.l;

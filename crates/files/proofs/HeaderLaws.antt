@@ -1,7 +1,6 @@
 -- The stages of the header, one after the other, are the header: where a stage is refused, each stage after it passes the refusal on.
 --     header-read                 what the three rows after the version make is what the definition says
 --     made-past, made-refused     and it is made by where the last row ends
--- Assumes nothing.
 use mathlib.Core.Path.{_≡_, refl}
 use mathlib.Core.List.{List}
 use Prim.Native.Nat.{ℕ}
@@ -16,7 +15,7 @@ use Rattle.reader.specs.declared.ends.End.the-variants.{Past, Refused}
 use Rattle.cells.specs.declared.row.RowRead.{RowRead}
 use Rattle.cells.specs.Rows.{rowAt}
 use Rattle.files.specs.Header.{sizeColumns, placeColumns, localColumns, sizesOf, headerOf, headerAt, noHeader, headerReadOf}
-use Rattle.cells.specs.Answers.{rowOf}
+use Rattle.cells.specs.Answers.{rowReadOf}
 use Rattle.reader.specs.Ends.{endOf, after}
 
 -- the answer of three rows' cells and the last one's end
@@ -36,10 +35,10 @@ module _ (e : End) (z q ls : List ℕ) {r : HeaderRead} (m : made e z q ls ≡ r
 module _ (f : ℕ → Out (List ℕ)) (g h : List ℕ → ℕ → Out (List ℕ)) where
   -- the answers
   abbrev second : RowRead → RowRead
-  second z = rowOf (after (z .end) (g (z .cells)))
+  second z = rowReadOf (after (z .end) (g (z .cells)))
 
   abbrev third : RowRead → RowRead → RowRead
-  third z q = rowOf (after (q .end) (h (z .cells)))
+  third z q = rowReadOf (after (q .end) (h (z .cells)))
 
   abbrev whole : RowRead → RowRead → RowRead → HeaderRead
   whole z q l = made (l .end) (z .cells) (q .cells) (l .cells)
@@ -54,29 +53,29 @@ module _ (f : ℕ → Out (List ℕ)) (g h : List ℕ → ℕ → Out (List ℕ)
   abbrev from₁ : Out (List ℕ) → Out Header
   from₁ o = then o λ z p. from₂ z (g z p)
 
-  by-third : (z q : List ℕ) (p : ℕ) (o : Out (List ℕ)) → made (rowOf o .end) z q (rowOf o .cells) ≡ headerReadOf (from₃ z q o)
+  by-third : (z q : List ℕ) (p : ℕ) (o : Out (List ℕ)) → made (rowReadOf o .end) z q (rowReadOf o .cells) ≡ headerReadOf (from₃ z q o)
   by-third z q p (got ls n) = refl
   by-third z q p (bad x) = refl
 
   by-second : (z : List ℕ) (p : ℕ) (o : Out (List ℕ))
-      → whole (rowOf (got z p)) (rowOf o) (third (rowOf (got z p)) (rowOf o)) ≡ headerReadOf (from₂ z o)
+      → whole (rowReadOf (got z p)) (rowReadOf o) (third (rowReadOf (got z p)) (rowReadOf o)) ≡ headerReadOf (from₂ z o)
   by-second z p (got q n) = by-third z q n (h z n)
   by-second z p (bad x) = refl
 
-  by-first : (o : Out (List ℕ)) → whole (rowOf o) (second (rowOf o)) (third (rowOf o) (second (rowOf o))) ≡ headerReadOf (from₁ o)
+  by-first : (o : Out (List ℕ)) → whole (rowReadOf o) (second (rowReadOf o)) (third (rowReadOf o) (second (rowReadOf o))) ≡ headerReadOf (from₁ o)
   by-first (got z p) = by-second z p (g z p)
   by-first (bad x) = refl
 
-  by-version : (o : Out ℕ) (z q l : RowRead) → z ≡ rowOf (after (endOf o) f) → q ≡ second z → l ≡ third z q
+  by-version : (o : Out ℕ) (z q l : RowRead) → z ≡ rowReadOf (after (endOf o) f) → q ≡ second z → l ≡ third z q
       → whole z q l ≡ headerReadOf (then o λ _ p. from₁ (f p))
   by-version (got v p) z q l ez eq el = rw (el, eq, ez) (by-first (f p))
   by-version (bad x) z q l ez eq el = rw (el, eq, ez)
 
 pub header-read : (s : List ℕ) {v : End} {z q l : RowRead} {first second third : List Column} {sizes : Sizes}
     → v ≡ endOf (versionAt s)
-    → first ≡ sizeColumns → z ≡ rowOf (after v (rowAt first s)) → sizes ≡ sizesOf (z .cells)
-    → second ≡ placeColumns sizes → q ≡ rowOf (after (z .end) (rowAt second s))
-    → third ≡ localColumns sizes → l ≡ rowOf (after (q .end) (rowAt third s))
+    → first ≡ sizeColumns → z ≡ rowReadOf (after v (rowAt first s)) → sizes ≡ sizesOf (z .cells)
+    → second ≡ placeColumns sizes → q ≡ rowReadOf (after (z .end) (rowAt second s))
+    → third ≡ localColumns sizes → l ≡ rowReadOf (after (q .end) (rowAt third s))
     → made (l .end) (z .cells) (q .cells) (l .cells) ≡ headerReadOf (headerAt s)
 unfolding headerAt
 header-read s {v} {z} {q} {l} ev e₁ ez en e₂ eq e₃ el =

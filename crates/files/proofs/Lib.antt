@@ -4,7 +4,7 @@
 --   TableLaws      what is known of a table that was read: it is sound, and where each cell stands
 --   TableStops     a file is refused where its first fault is
 --   TableStages    the parts of the file are the table
---   RoomLaws       the room W, at most 2,360,320
+--   WLaws       W, at most 2,360,320
 --   Computed       the definition of a table's file, ready to compute
 --   Unique         two results that a contract allows are equal
 pub mod HeaderLaws
@@ -12,6 +12,6 @@ pub mod RowKinds
 pub mod TableLaws
 pub mod TableStops
 pub mod TableStages
-pub mod RoomLaws
+pub mod WLaws
 pub mod Computed
 pub mod Unique

@@ -1,7 +1,6 @@
 -- The rows of a list that was read, as records and as cells: a record of a row gives the row's cells back, whatever kind of row it is.
 --     step-back, …, error-back          the cells of a row's record are the row
 --     cells-back, rows-sound            so are the cells of a list's records, and the records are sound rows
--- Assumes nothing.
 use mathlib.Core.Path.{_≡_, refl, sym, ap, ap₂, subst, subst⁻¹}
 use mathlib.Core.List.{List, [], _∷_, map, List·Memᴰ, List·Memᴰ·head, List·Memᴰ·tail}
 use Prim.Native.Nat.{ℕ, zero, suc, _≤_}

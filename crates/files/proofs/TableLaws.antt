@@ -4,7 +4,6 @@
 --     four-numbers   four local stores are a list of their numbers
 --     header-back    its header is the one that was read
 --     cell-stands    cell j of row i stands at byte 5 * i + j of its list's memory
--- Assumes nothing.
 use mathlib.Core.Path.{_≡_, refl, sym, ap, _∙_}
 use mathlib.Core.List.{List, [], _∷_, _++_, map}
 use mathlib.Core.Bool.{Bool, true, false}

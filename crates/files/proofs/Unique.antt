@@ -1,6 +1,5 @@
 -- Two results that a contract allows are equal: for each public function, of its contract as the prover reads it from the source (`Post`).
 -- Every contract here is an equation for the answer and for each memory, so both results equal the same.
--- Assumes nothing.
 use mathlib.Core.Path.{_≡_}
 use mathlib.Core.List.{List}
 use Prim.Native.Nat.{ℕ}
@@ -10,16 +9,16 @@ use denote.Triple.Clauses.{AtExit}
 use borrow.Fn.Kinds.{Dens, endedOf}
 use Rattle.files.specs.declared.table.TableRead.{TableRead}
 use Rattle.files.specs.File.{TableIs}
-use Rattle.files.proofs.header.room_of.Reads as room-of
-use Rattle.files.proofs.header.room_of.Kinds as room-of-kinds
+use Rattle.files.proofs.header.w_of.Reads as w-of
+use Rattle.files.proofs.header.w_of.Kinds as w-of-kinds
 use Rattle.files.proofs.header.read_header.Reads as read-header
 use Rattle.files.proofs.header.read_header.Kinds as read-header-kinds
 use Rattle.files.proofs.table.read_table.Reads as read-table
 use Rattle.files.proofs.table.read_table.Kinds as read-table-kinds
 use Rattle.numbers.proofs.Unique.{same, Fixes}
 
-pub room-of-fixes : Fixes room-of-kinds.ps room-of-kinds.r room-of.Post
-room-of-fixes κs a x x′ s s′ = same
+pub w-of-fixes : Fixes w-of-kinds.ps w-of-kinds.r w-of.Post
+w-of-fixes κs a x x′ s s′ = same
 
 pub read-header-fixes : Fixes read-header-kinds.ps read-header-kinds.r read-header.Post
 read-header-fixes κs a x x′ s s′ = same

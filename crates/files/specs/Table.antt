@@ -141,14 +141,14 @@ pub record Sound (T : Table) : Type 0 where
   pub pops : Rows mostPops (PopFits T) popCells (T .pops)
   pub errors : Rows mostErrors (ErrorFits T) errorCells (T .errors)
 
--- ---- the room that its facts take (document 01, "Working memory and claims")
+-- ---- how many facts it may have (document 01, "Working memory and claims")
 
-unfoldable pub room : ℕ → ℕ → ℕ → ℕ → ℕ
-room n G L F = n * (G * G) * (1 + L * L * (1 + F))
+unfoldable pub wOf : ℕ → ℕ → ℕ → ℕ → ℕ
+wOf n G L F = n * (G * G) * (1 + L * L * (1 + F))
 
 unfoldable pub W : Table → ℕ
-unfolding room
-W T = room (T .n) (T .G) (T .L) (T .F)
+unfolding wOf
+W T = wOf (T .n) (T .G) (T .L) (T .F)
 
 -- the largest W: "at most 2,360,320"
 abbrev pub mostFacts : ℕ

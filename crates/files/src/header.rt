@@ -1,7 +1,7 @@
 // The header of a table file: all that stands before the count of step rows.
 ghost use mathlib.Core.Path.{_≡_};
 ghost use Rattle.numbers.specs.Reading.{versionAt};
-ghost use Rattle.files.specs.Table.{room};
+ghost use Rattle.files.specs.Table.{wOf};
 ghost use Rattle.reader.specs.Ends.{endOf};
 ghost use Rattle.files.specs.Header.{sizeColumns, placeColumns, localColumns, headerAt, headerReadOf, sizesOf, noHeader};
 use cells::columns::Column;
@@ -20,6 +20,9 @@ const MOST_LOCALS: u8 = 16;
 
 const MOST_FRAMES: u8 = 8;
 
+// W of the largest table that the limits allow: no table has more facts.
+pub const MOST_FACTS: usize = 2360320;
+
 // What the header says. `failed` is 0 for no failed store and k + 1 for local store k; `start` is the initial shared store;
 // `firsts` has each thread's initial local store, and 0 for the threads that are not there.
 pub struct Header {
@@ -35,9 +38,9 @@ pub struct HeaderRead {
     pub end: End,
 }
 
-// The working memory that a table of these sizes takes, in bytes.
-pub fn room_of(sizes: Sizes) -> usize
-    ensures { λ r. ⌜ r ≡ room (sizes .threads) (sizes .shared) (sizes .locals) (sizes .frames) ⌝ }
+// W of a table of these sizes: how many facts it may have, and so how many bytes of working memory it takes.
+pub fn w_of(sizes: Sizes) -> usize
+    ensures { λ r. ⌜ r ≡ wOf (sizes .threads) (sizes .shared) (sizes .locals) (sizes .frames) ⌝ }
 {
     let n = sizes.threads as usize;
     let shared = sizes.shared as usize;

@@ -28,6 +28,17 @@ const MOST_POPS: u16 = 256;
 
 const MOST_ERRORS: u16 = 64;
 
+pub const STEP_ROWS: usize = MOST_STEPS as usize;
+
+// The memory that the rows of each list take at most: five bytes a row.
+pub const STEP_BYTES: usize = 5 * STEP_ROWS;
+
+pub const PUSH_BYTES: usize = 5 * MOST_PUSHES as usize;
+
+pub const POP_BYTES: usize = 5 * MOST_POPS as usize;
+
+pub const ERROR_BYTES: usize = 5 * MOST_ERRORS as usize;
+
 // How many rows each list has.
 pub struct Counts {
     pub steps: usize,
@@ -113,10 +124,10 @@ fn find_parts(src: &[u8]) -> Parts
 fn keep_parts(
     src: &[u8],
     parts: Parts,
-    steps: &mut [u8; 5120],
-    pushes: &mut [u8; 1280],
-    pops: &mut [u8; 1280],
-    errors: &mut [u8; 320],
+    steps: &mut [u8; STEP_BYTES],
+    pushes: &mut [u8; PUSH_BYTES],
+    pops: &mut [u8; POP_BYTES],
+    errors: &mut [u8; ERROR_BYTES],
 )
     requires { ⌜ PartsOf (now src) parts × ((n : ℕ) × (parts .end ≡ Past n)) ⌝ }
     ensures { λ _. ⌜ PartsKept (now (src .entry)) parts
@@ -138,10 +149,10 @@ fn keep_parts(
 // The table that a file holds, or the refusal. The rows go into the four memories, five bytes a row; a refusal changes nothing.
 pub fn read_table(
     src: &[u8],
-    steps: &mut [u8; 5120],
-    pushes: &mut [u8; 1280],
-    pops: &mut [u8; 1280],
-    errors: &mut [u8; 320],
+    steps: &mut [u8; STEP_BYTES],
+    pushes: &mut [u8; PUSH_BYTES],
+    pops: &mut [u8; POP_BYTES],
+    errors: &mut [u8; ERROR_BYTES],
 ) -> TableRead
     ensures { λ r. ⌜ TableIs (now (src .entry)) r
         (now (steps .entry)) (now (pushes .entry)) (now (pops .entry)) (now (errors .entry))

@@ -4,9 +4,13 @@ ghost use Prim.Native.Nat.{_+_, _≤_};
 ghost use lib.ListN.{length};
 use cells::columns::Sizes;
 use files::header::Header;
-use files::header::room_of;
+use files::header::w_of;
 use files::table::Counts;
+use files::table::ERROR_BYTES;
 use files::table::Outcome;
+use files::table::POP_BYTES;
+use files::table::PUSH_BYTES;
+use files::table::STEP_BYTES;
 use files::table::TableRead;
 use files::table::read_table;
 use libc::STDOUT_FILENO;
@@ -74,13 +78,13 @@ fn put_bytes(room: &mut Room, at: usize, bytes: &[u8]) {
 // Where in a room the four memories stand that the reader puts the rows into, five bytes a row. They have 8,000 bytes.
 const STEPS: usize = 0;
 
-const PUSHES: usize = 5120;
+const PUSHES: usize = STEP_BYTES;
 
-const POPS: usize = 6400;
+const POPS: usize = PUSHES + PUSH_BYTES;
 
-const ERRORS: usize = 7680;
+const ERRORS: usize = POPS + POP_BYTES;
 
-const MEMORIES: usize = 8000;
+const MEMORIES: usize = ERRORS + ERROR_BYTES;
 
 // What each byte of the memories is before a file is read. No cell of a row is so large.
 const FILL: u8 = 170;
@@ -88,10 +92,10 @@ const FILL: u8 = 170;
 // Puts the four memories one after another.
 fn put_memories(
     memory: &mut Room,
-    steps: &[u8; 5120],
-    pushes: &[u8; 1280],
-    pops: &[u8; 1280],
-    errors: &[u8; 320],
+    steps: &[u8; STEP_BYTES],
+    pushes: &[u8; PUSH_BYTES],
+    pops: &[u8; POP_BYTES],
+    errors: &[u8; ERROR_BYTES],
 ) {
     put_bytes(memory, STEPS, steps);
     put_bytes(memory, PUSHES, pushes);
@@ -101,10 +105,10 @@ fn put_memories(
 
 // Runs the table reader on a file.
 fn read(file: &[u8], memory: &mut Room) -> TableRead {
-    let mut steps = [FILL; 5120];
-    let mut pushes = [FILL; 1280];
-    let mut pops = [FILL; 1280];
-    let mut errors = [FILL; 320];
+    let mut steps = [FILL; STEP_BYTES];
+    let mut pushes = [FILL; PUSH_BYTES];
+    let mut pops = [FILL; POP_BYTES];
+    let mut errors = [FILL; ERROR_BYTES];
     let read = read_table(file, &mut steps, &mut pushes, &mut pops, &mut errors);
     put_memories(memory, &steps, &pushes, &pops, &errors);
     read
@@ -186,7 +190,7 @@ fn write_header(header: Header) {
     cell(header.failed);
     cell(header.start);
     cells(&firsts);
-    number(b", W ", room_of(sizes));
+    number(b", W ", w_of(sizes));
 }
 
 // What is said of a table that is accepted.

@@ -3,7 +3,6 @@
 --     start-lacks, starts-marked           a thread lacks its start fact; or none does
 --     position-misses, closed-marked       a position is missing; or none is
 --     row-allows, nothing-found            an error is allowed; or none is
--- Assumes nothing.
 use mathlib.Core.Path.{_≡_}
 use mathlib.Core.List.{List}
 use Prim.Native.Nat.{ℕ, _≤_, _<_}
@@ -22,7 +21,7 @@ use Rattle.verdict.specs.declared.search.Verdict.{Verdict}
 use Rattle.verdict.specs.declared.search.Verdict.the-variants.{Safe, Possible}
 use Rattle.verdict.specs.ErrorRows.{Judged}
 use Rattle.verdict.proofs.Answers.{possible-row, safe-none}
-use Rattle.rules.proofs.Outcomes.{w-by}
+use Rattle.check_call.proofs.Outcomes.{w-by}
 use Rattle.findings.specs.Found.{Started, lacking, whole}
 use Rattle.findings.proofs.StartMarks.{threads-by}
 

@@ -1,7 +1,6 @@
 -- What is found on a memory that holds a set of facts is found of that set: the memory marks its facts and no others.
 --     finds-of-held    for any set of facts that are in range
 --     finds-of-claim   for the facts at the positions that a claim lists
--- Assumes nothing.
 use mathlib.Core.List.{List, List·Memᴰ}
 use Prim.Native.Nat.{ℕ, _<_}
 use Rattle.files.specs.Table.{Table, Sound, W}

@@ -1,6 +1,5 @@
 -- The start facts that a memory marks, by looking where they stand: the first thread with no mark there lacks its start fact, and those before
 -- it have theirs.
--- Assumes nothing.
 use mathlib.Core.Path.{_≡_, sym, ap, subst, _∙_}
 use mathlib.Core.List.{List}
 use Prim.Native.Nat.{ℕ, _<_}

@@ -1,6 +1,5 @@
 -- Two results that a contract allows are equal: what is found, with every byte of the memory, and the smallest thread that lacks its start fact.
 -- `Post` is the contract as the prover reads it from the source, and `Pre` what it asks.
--- Assumes nothing.
 use mathlib.Core.Path.{_≡_, refl, sym, ap, _∙_}
 use mathlib.Core.List.{List}
 use Prim.Native.Nat.{ℕ}

@@ -7,12 +7,16 @@ ghost use Rattle.model.specs.Rules.{ClosedWithStarts};
 ghost use Rattle.model.specs.Memory.{Marked};
 ghost use Rattle.model.specs.Claims.{Finds};
 ghost use Rattle.verdict.specs.ErrorRows.{ErrorsOf};
-ghost use Rattle.rules.specs.Lent.{Stored};
+ghost use Rattle.check_call.specs.Lent.{Stored};
 ghost use Rattle.findings.specs.Found.{findingOf};
 use crate::starts::lacking_start;
 use engine::run::missing;
 use files::header::Header;
 use files::table::Counts;
+use files::table::ERROR_BYTES;
+use files::table::POP_BYTES;
+use files::table::PUSH_BYTES;
+use files::table::STEP_BYTES;
 use positions::plan::Plan;
 use positions::plan::plan_by;
 use store::rows::RowCounts;
@@ -32,7 +36,7 @@ pub enum Finding {
 }
 
 // What is found of facts that are a closed set with the start facts: an error that is allowed, or nothing.
-fn find_error(s: Plan, failed: u8, errors: &[u8; 320], n: usize, mem: &[u8]) -> Finding
+fn find_error(s: Plan, failed: u8, errors: &[u8; ERROR_BYTES], n: usize, mem: &[u8]) -> Finding
     requires { ⌜ ((T : Table) × ErrorsOf T s failed (now errors) n) × (5 * n ≤ length (now errors)) × (s .w ≤ length (now mem)) ⌝ }
     ensures { λ r. ⌜ ((T : Table) → ErrorsOf T s failed (now (errors .entry)) n
         → ClosedWithStarts T (Marked T (now (mem .entry))) → Finds T (Marked T (now (mem .entry))) (findingOf r)) ⌝ }
@@ -55,10 +59,10 @@ fn find_error(s: Plan, failed: u8, errors: &[u8; 320], n: usize, mem: &[u8]) -> 
 pub fn find(
     header: Header,
     counts: Counts,
-    steps: &[u8; 5120],
-    pushes: &[u8; 1280],
-    pops: &[u8; 1280],
-    errors: &[u8; 320],
+    steps: &[u8; STEP_BYTES],
+    pushes: &[u8; PUSH_BYTES],
+    pops: &[u8; POP_BYTES],
+    errors: &[u8; ERROR_BYTES],
     mem: &mut [u8],
 ) -> Finding
     requires { ⌜ ((T : Table) × Stored T header counts (now steps) (now pushes) (now pops) (now errors) × (W T ≤ length (now mem))) ⌝ }

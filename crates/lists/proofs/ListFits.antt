@@ -1,6 +1,5 @@
 -- What is known of a list that was read.
 --     Good, list-good    each row fits its columns and is above the one before, and there are at most `most`
--- Assumes nothing.
 use mathlib.Core.Path.{_≡_, refl, sym, ap, subst}
 use mathlib.Core.List.{List, [], _∷_}
 use mathlib.Core.Bool.{true}

@@ -1,7 +1,6 @@
 -- Laws of the order of rows, and the invariant of the loop that compares two.
 --     below-less, -more, -same    two rows are compared at their first numbers, and at the rest where these are equal
 --     Equal, equal-…              two rows are equal up to cell j, and compared by what is left
--- Assumes nothing.
 use mathlib.Core.Path.{_≡_, refl, sym, ap, ap₂, _∙_}
 use mathlib.Core.List.{List, [], _∷_}
 use mathlib.Core.Bool.{true, false}

@@ -5,7 +5,7 @@ ghost use Prim.Native.Nat.{_+_, _*_, _≤_, _<_};
 ghost use lib.ListN.{length};
 ghost use Rattle.numbers.specs.Reading.{bad, numberAt};
 ghost use Rattle.cells.specs.Rows.{cellAt, rowAt};
-ghost use Rattle.cells.specs.Answers.{rowOf};
+ghost use Rattle.cells.specs.Answers.{rowReadOf};
 ghost use Rattle.lists.specs.Order.{below};
 ghost use Rattle.lists.specs.Lists.{nextRow, rowsAt, listAt};
 ghost use Rattle.lists.specs.ListAnswers.{listOf, listAfter};
@@ -56,7 +56,7 @@ fn above(old: [u8; 5], new: [u8; 5]) -> bool
 
 // Row i, which is to be above the one before it, `old`; row 0 has none before it.
 fn next_row(src: &[u8], at: usize, columns: [Column; 5], i: usize, old: [u8; 5]) -> RowRead
-    ensures { λ r. ⌜ r ≡ rowOf (nextRow (oldOf i old) columns (now (src .entry)) at) ⌝ }
+    ensures { λ r. ⌜ r ≡ rowReadOf (nextRow (oldOf i old) columns (now (src .entry)) at) ⌝ }
 {
     let read = row(src, at, columns);
     let cells = read.cells;

@@ -1,7 +1,6 @@
 -- Demand 3 of the model: no run of a table for which a claim is accepted, whoever wrote it, meets an error state; the least relations, if
 -- they are safe, are accepted as a claim; and if they are not, no claim is. An accepted claim is a closed set with the start facts, so the
 -- least relations lie in it, and runs are held by it.
--- Assumes nothing.
 use mathlib.Core.Option.{none, some}
 use mathlib.Core.List.{List}
 use Prim.Native.Nat.{ℕ}

@@ -1,7 +1,6 @@
 -- What a claim check finds. Of marks, as of every set that is decided, a fact is there or not: so if no start fact is lacking the start
 -- facts are held, and if no position is missing the set is closed. The smallest row of an allowed error is that of the smallest witness. And a
 -- memory that marks the positions that a claim lists, and no others, holds the claimed facts.
--- Assumes nothing.
 use mathlib.Core.Path.{refl, sym, subst}
 use mathlib.Core.Logic.{Dec·not-not}
 use mathlib.Core.List.{List, List·Memᴰ, Memᴰ·cast, Memᴰ·map, Memᴰ·of-map}

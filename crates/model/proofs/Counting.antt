@@ -1,6 +1,5 @@
 -- Counting by a list: if the numbers of a set below a bound are those of an ascending list, their count is the length of the list. Up to
 -- each number of the list the count stands still, and there it goes up by one.
--- Assumes nothing.
 use mathlib.Core.Path.{_≡_, refl, subst}
 use mathlib.Core.List.{List, [], _∷_, List·Memᴰ, List·Memᴰ·head, List·Memᴰ·tail}
 use Prim.Native.Nat.{ℕ, zero, suc, _+_, _-_, _≤_, _<_}

@@ -5,7 +5,6 @@
 -- This file has the parts: each member of a list, some member, each number below a bound, the smallest number. The files below it decide
 -- what is said of the facts of a list: exact? of the least relations, verdict? of the verdict, finding? of a claim. The last two are not
 -- evaluated but say what there is: Derivable, a list of the derivable facts of every sound table; Answered, a verdict and a finding.
--- Assumes nothing.
 pub mod Yields
 pub mod Least
 pub mod Errors
@@ -30,8 +29,8 @@ decided (yes a) y = a
 decided (no _) y = absurd y
 
 -- the members of the list are those of the set
-abbrev pub Listed : {A : Type 0} → (A → Type 0) → List A → Type 0
-Listed {A} S xs = (a : A) → S a ↔ List·Memᴰ a xs
+abbrev pub Enumerates : {A : Type 0} → (A → Type 0) → List A → Type 0
+Enumerates {A} S xs = (a : A) → S a ↔ List·Memᴰ a xs
 
 -- ---- the members of a list
 

@@ -1,5 +1,4 @@
 -- What the rules yield from facts in range is in range, since every row of a sound table is. So every derivable fact is in range.
--- Assumes nothing.
 use Rattle.files.specs.Table.{Table, Sound}
 use Rattle.model.specs.Rules.{
   Fact,

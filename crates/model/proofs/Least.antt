@@ -1,6 +1,5 @@
 -- The least relations hold the start facts, are closed, and lie in every set that does both; and what two such sets share is such a set.
 -- A derivation is an induction: each use of a rule from derivable facts is one more step, and a closed set makes each step too.
--- Assumes nothing.
 use Rattle.files.specs.Table.{Table}
 use Rattle.model.specs.Rules.{
   Fact,

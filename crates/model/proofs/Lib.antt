@@ -9,7 +9,6 @@
 --   Unique             the memory, the count, the smallest numbers, the verdict and the finding are determined
 --   Claims             what a claim check finds of a set that is decided, and of marks
 --   Decide             the least relations, the verdict and the finding decided by evaluation, for lists of facts; that there always is one
---   Simple             the training table and its mutex of document 01, so decided
 -- Lists, Counting, DecidedSets, Order and Monotone are what these share.
 pub mod AcceptedMeansSafe
 pub mod RunsAreHeld
@@ -21,7 +20,6 @@ pub mod FactCounts
 pub mod Unique
 pub mod Claims
 pub mod Decide
-pub mod Simple
 pub mod Lists
 pub mod Counting
 pub mod DecidedSets

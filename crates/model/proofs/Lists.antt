@@ -1,6 +1,5 @@
 -- Members of lists that are built: of one or two elements, of two lists together, of a list under a condition, and of a list for each
 -- member of another. A law named from-… says where a member comes from, and one named to-… puts it in. And what stands at a number of a list.
--- Assumes nothing.
 use mathlib.Core.Path.{_≡_, refl, subst, subst⁻¹}
 use mathlib.Core.Option.{some}
 use mathlib.Core.Logic.{_⊎_, inl, inr}

@@ -1,7 +1,6 @@
 -- What follows from a memory that holds a set of facts, and when a memory holds the least relations: its marks are 0 or 1, each marked fact
 -- is derivable, and the marked facts are a closed set with the start facts. Its sum is then the number of facts. A memory of which only
 -- the first two are known has a sum that is no more than the number of facts; so if the sum is over a budget, the number is.
--- Assumes nothing.
 use mathlib.Core.Path.{_≡_, refl}
 use mathlib.Core.List.{List, _++_}
 use Prim.Native.Nat.{ℕ, zero, suc, _+_, _≤_, _<_}

@@ -1,5 +1,4 @@
 -- More facts yield more facts and allow more errors. So sets of the same facts have the same verdict and the same finding.
--- Assumes nothing.
 use mathlib.Core.Option.{Option}
 use Prim.Native.Nat.{ℕ}
 use Rattle.files.specs.Table.{Table}

@@ -1,6 +1,5 @@
 -- The order of witnesses: each is no larger than itself, two of which each is no larger than the other are one, and the smaller has the
 -- smaller row or the same. Of two of one length one is no larger than the other.
--- Assumes nothing.
 use mathlib.Core.Path.{_≡_, refl, ap₂, _∙_}
 use mathlib.Core.Logic.{_⊎_, inl, inr, ⊎-elim}
 use mathlib.Core.List.{List, [], _∷_}

@@ -1,6 +1,5 @@
 -- Facts in range and positions below W are one to one, and factAt is the inverse of pos. A position is a number in mixed digits: each digit
 -- below its base, so a number of digits is below the product of the bases, and division and remainder give the digits back.
--- Assumes nothing.
 use mathlib.Core.Path.{_≡_, sym, ap, subst, _∙_}
 use mathlib.Core.Logic.{if-pos, if-neg}
 use Prim.Native.Nat.{ℕ, zero, suc, _+_, _-_, _*_, _/_, _<_}

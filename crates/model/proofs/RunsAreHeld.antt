@@ -1,7 +1,6 @@
 -- 004's Lemma 2, for every closed set with the start facts: in a state that a run reaches, each thread reaches its place by a P fact of the
 -- set. So if the set allows no error, no run meets an erroneous state. The induction over the run also follows each thread's stack: every
 -- frame on it was pushed by a call that a Q fact of the set holds up to where the callee began.
--- Assumes nothing.
 use mathlib.Core.Path.{_≡_, sym, subst⁻¹}
 use mathlib.Core.Logic.{_≢_}
 use mathlib.Core.List.{List, [], _∷_}

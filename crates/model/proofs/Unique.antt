@@ -1,6 +1,5 @@
 -- What is reported is determined: the first W bytes by the set of facts that they hold, the number of facts, the smallest number of a set
 -- (a lacking thread, a missing position, an allowed row), the verdict with its witness, and the finding on a claim.
--- Assumes nothing.
 use mathlib.Core.Path.{_≡_, refl, ap}
 use mathlib.Core.Option.{Option, some}
 use mathlib.Core.List.{List}

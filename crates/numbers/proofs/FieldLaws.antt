@@ -1,7 +1,6 @@
 -- Laws of a number that has a range.
 --     field-low, -high, -in    what `fieldAt` gives for a number below its range, above it and in it
 --     field-got                what is known of a field that was read
--- Assumes nothing.
 use mathlib.Core.Path.{_≡_, refl}
 use mathlib.Core.List.{List}
 use mathlib.Core.Bool.{Bool, true, false}

@@ -5,7 +5,6 @@
 --     number-groups, -small                      a number is four groups at most, and a byte below 128 is one by itself
 --     number-past, number-below                  a number that was read ends within the bytes, and is below 2^28
 -- Each property of a number is an induction on `Accepted`.
--- Assumes nothing.
 use mathlib.Core.Path.{_≡_, refl, sym, _∙_}
 use mathlib.Core.List.{List}
 use mathlib.Core.Bool.{Bool, true, false}

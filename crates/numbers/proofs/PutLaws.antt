@@ -1,5 +1,4 @@
 -- What is put, and then something else at the place past it, are their join that is put: a run of stores past a run of stores is one run.
--- Assumes nothing.
 use mathlib.Core.Path.{_≡_, _∙_}
 use mathlib.Core.List.{List, [], _∷_, _++_}
 use Prim.Native.Nat.{ℕ, suc, _+_}

@@ -3,7 +3,6 @@
 --     pick-either           what holds of both holds of the one that is picked
 --     parts                 where a whole was read, its first part was read, and the rest from the place past it
 --     read-got, read-bad    what the code's answer tells of what was read
--- Assumes nothing.
 use mathlib.Core.Path.{_≡_, refl}
 use mathlib.Core.Bool.{Bool, true, false}
 use Prim.Native.Nat.{ℕ}

@@ -1,7 +1,6 @@
 -- Two results that a contract allows are equal: for each public function, in the text of its contract.
 -- `Post` is the contract as the prover reads it from the source. So the second half says that the text here is the contract's:
 -- a contract that is changed no longer fits it.
--- Assumes nothing.
 use mathlib.Core.Path.{_≡_, sym, _∙_}
 use mathlib.Core.List.{List}
 use Prim.Native.Nat.{ℕ}

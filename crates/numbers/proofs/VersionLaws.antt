@@ -1,7 +1,6 @@
 -- Laws of the version that a file begins with.
 --     version-one, -other, -bad    what `versionAt` gives, one law for each way that it goes
 --     version-got                  what is known of a version that was read
--- Assumes nothing.
 use mathlib.Core.Path.{_≡_, refl}
 use mathlib.Core.List.{List}
 use mathlib.Core.Bool.{Bool, true, false}

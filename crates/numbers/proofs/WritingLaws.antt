@@ -1,9 +1,8 @@
 -- Laws of how a number is written, and the invariant of the loop that writes it.
---     digits-last, digits-more                    the bytes of a number, one group at a time
+--     groupsOf-last, groupsOf-more                    the bytes of a number, one group at a time
 --     one-byte, .., one-to-four-bytes             how many they are
 --     Writing, write-start, -more, -last, -room   the loop: what it has still to write gives the whole
 --     put-room, put-big, put-full                 what `put_number` leaves where it writes, and where it does not
--- Assumes nothing.
 use mathlib.Core.Path.{_≡_, refl, sym, _∙_}
 use mathlib.Core.List.{List, [], _∷_}
 use mathlib.Core.Bool.{Bool, false}
@@ -14,54 +13,54 @@ use borrow.Author.Tests.{lt-ltb, le-ltb, le-leb, lt-leb}
 use lib.ListN.{length, set, length-set}
 use lib.Seq.{sets}
 use lib.Dec.{ltb}
-use Rattle.numbers.specs.Writing.{digits, bytesOf, hasRoom, putNext, putInto}
+use Rattle.numbers.specs.Writing.{groupsOf, bytesOf, hasRoom, putNext, putInto}
 use Rattle.numbers.proofs.ReadingLaws.{pick-either}
 
 -- ---- the bytes of a number
 
 module _ (left value : ℕ) where
-  pub digits-last : value < 128 → digits (suc left) value ≡ value ∷ []
-  unfolding digits
-  digits-last h = simp (lt-ltb _ _ h)
+  pub groupsOf-last : value < 128 → groupsOf (suc left) value ≡ value ∷ []
+  unfolding groupsOf
+  groupsOf-last h = simp (lt-ltb _ _ h)
 
-  pub digits-more : 128 ≤ value → digits (suc left) value ≡ (value % 128 + 128) ∷ digits left (value / 128)
-  unfolding digits
-  digits-more h = simp (le-ltb _ _ h)
+  pub groupsOf-more : 128 ≤ value → groupsOf (suc left) value ≡ (value % 128 + 128) ∷ groupsOf left (value / 128)
+  unfolding groupsOf
+  groupsOf-more h = simp (le-ltb _ _ h)
 
 -- one byte at least, and no more than groups
-digits-some : (left value : ℕ) → 1 ≤ length (digits (suc left) value)
-unfolding digits
-digits-some left value = pick-either (λ (l : List ℕ). 1 ≤ length l) (ltb value 128) (omega arith) (omega arith)
+groupsOf-some : (left value : ℕ) → 1 ≤ length (groupsOf (suc left) value)
+unfolding groupsOf
+groupsOf-some left value = pick-either (λ (l : List ℕ). 1 ≤ length l) (ltb value 128) (omega arith) (omega arith)
 
-digits-most : (left value : ℕ) → length (digits left value) ≤ left
-unfolding digits
-digits-most zero value = omega arith
-digits-most (suc left) value =
-    pick-either (λ (l : List ℕ). length l ≤ suc left) (ltb value 128) (omega arith) (omega (arith, digits-most left (value / 128)))
+groupsOf-most : (left value : ℕ) → length (groupsOf left value) ≤ left
+unfolding groupsOf
+groupsOf-most zero value = omega arith
+groupsOf-most (suc left) value =
+    pick-either (λ (l : List ℕ). length l ≤ suc left) (ltb value 128) (omega arith) (omega (arith, groupsOf-most left (value / 128)))
 
 module _ (value : ℕ) where
   pub one-byte : value < 128 → length (bytesOf value) ≡ 1
   unfolding bytesOf
-  one-byte h = rw (digits-last 3 value h)
+  one-byte h = rw (groupsOf-last 3 value h)
 
   pub two-bytes : 128 ≤ value → value < 16384 → length (bytesOf value) ≡ 2
   unfolding bytesOf
-  two-bytes l h = rw (digits-more 3 value l, digits-last 2 (value / 128) (omega arith))
+  two-bytes l h = rw (groupsOf-more 3 value l, groupsOf-last 2 (value / 128) (omega arith))
 
   pub three-bytes : 16384 ≤ value → value < 2097152 → length (bytesOf value) ≡ 3
   unfolding bytesOf
   three-bytes l h =
-      rw (digits-more 3 value (omega arith), digits-more 2 (value / 128) (omega arith), digits-last 1 (value / 128 / 128) (omega arith))
+      rw (groupsOf-more 3 value (omega arith), groupsOf-more 2 (value / 128) (omega arith), groupsOf-last 1 (value / 128 / 128) (omega arith))
 
   pub four-bytes : 2097152 ≤ value → length (bytesOf value) ≡ 4
   unfolding bytesOf
   four-bytes l =
-      rw (digits-more 3 value (omega arith), digits-more 2 (value / 128) (omega arith), digits-more 1 (value / 128 / 128) (omega arith))
-      (omega (arith, digits-some 0 (value / 128 / 128 / 128), digits-most 1 (value / 128 / 128 / 128)))
+      rw (groupsOf-more 3 value (omega arith), groupsOf-more 2 (value / 128) (omega arith), groupsOf-more 1 (value / 128 / 128) (omega arith))
+      (omega (arith, groupsOf-some 0 (value / 128 / 128 / 128), groupsOf-most 1 (value / 128 / 128 / 128)))
 
   pub one-to-four-bytes : (1 ≤ length (bytesOf value)) × (length (bytesOf value) ≤ 4)
   unfolding bytesOf
-  one-to-four-bytes = (digits-some 3 value, digits-most 4 value)
+  one-to-four-bytes = (groupsOf-some 3 value, groupsOf-most 4 value)
 
 -- ---- the loop
 
@@ -69,8 +68,8 @@ module _ (value : ℕ) where
 pub record Writing (d₀ : List ℕ) (at value : ℕ) (d : List ℕ) (i rest : ℕ) : Type 0 where
   pub groups : ℕ
   pub small : rest < 128 ^ suc groups
-  pub same : sets d₀ at (bytesOf value) ≡ sets d i (digits (suc groups) rest)
-  pub room : i + length (digits (suc groups) rest) ≤ length d
+  pub same : sets d₀ at (bytesOf value) ≡ sets d i (groupsOf (suc groups) rest)
+  pub room : i + length (groupsOf (suc groups) rest) ≤ length d
   pub long : length d ≡ length d₀
 
 pub write-start : (d : List ℕ) (at value : ℕ) → value < 268435456 → at + length (bytesOf value) ≤ length d → Writing d at value d at value
@@ -81,22 +80,22 @@ module _ {d₀ : List ℕ} {at value : ℕ} {d : List ℕ} {i rest : ℕ} where
   pub write-more : Writing d₀ at value d i rest → 128 ≤ rest → Writing d₀ at value (set d i (rest % 128 + 128)) (i + 1) (rest / 128)
   write-more w h = go (w .groups) (w .small) (w .same) (w .room)
     where
-      go : (k : ℕ) → rest < 128 ^ suc k → sets d₀ at (bytesOf value) ≡ sets d i (digits (suc k) rest)
-          → i + length (digits (suc k) rest) ≤ length d → Writing d₀ at value (set d i (rest % 128 + 128)) (i + 1) (rest / 128)
+      go : (k : ℕ) → rest < 128 ^ suc k → sets d₀ at (bytesOf value) ≡ sets d i (groupsOf (suc k) rest)
+          → i + length (groupsOf (suc k) rest) ≤ length d → Writing d₀ at value (set d i (rest % 128 + 128)) (i + 1) (rest / 128)
       go zero s e r = absurd (omega arith)
       go (suc k) s e r = record {
         groups = k;
         small = omega arith;
-        same = e ∙ rw (digits-more (suc k) rest h, add-one i);
-        room = rw length-set (omega (arith, rw (digits-more (suc k) rest h) at r));
+        same = e ∙ rw (groupsOf-more (suc k) rest h, add-one i);
+        room = rw length-set (omega (arith, rw (groupsOf-more (suc k) rest h) at r));
         long = length-set d i (rest % 128 + 128) ∙ w .long;
       }
 
   pub write-last : Writing d₀ at value d i rest → rest < 128 → set d i rest ≡ sets d₀ at (bytesOf value)
-  write-last w h = sym (w .same ∙ rw (digits-last (w .groups) rest h))
+  write-last w h = sym (w .same ∙ rw (groupsOf-last (w .groups) rest h))
 
   pub write-room : Writing d₀ at value d i rest → i < length d
-  write-room w = omega (arith, digits-some (w .groups) rest)
+  write-room w = omega (arith, groupsOf-some (w .groups) rest)
 
 -- ---- where there is room, and where not
 

@@ -8,13 +8,13 @@ use lib.Dec.{ltb, leb}
 use Rattle.numbers.specs.Reading.{pick}
 
 -- value in at most `left` groups of seven bits, the least significant first; the top bit is set on all but the last
-unfoldable pub digits : ℕ → ℕ → List ℕ
-digits zero value = []
-digits (suc left) value = pick (ltb value 128) (value ∷ []) ((value % 128 + 128) ∷ digits left (value / 128))
+unfoldable pub groupsOf : ℕ → ℕ → List ℕ
+groupsOf zero value = []
+groupsOf (suc left) value = pick (ltb value 128) (value ∷ []) ((value % 128 + 128) ∷ groupsOf left (value / 128))
 
 -- the bytes of a number below 2^28
 unfoldable pub bytesOf : ℕ → List ℕ
-bytesOf value = digits 4 value
+bytesOf value = groupsOf 4 value
 
 -- value is a number, and its bytes have room at `at`
 unfoldable pub hasRoom : List ℕ → ℕ → ℕ → Bool

@@ -1,6 +1,5 @@
 -- Rules 2 and 3. Their tests: whether a thread's guarantee acts, whether one of them does, and whether facts of a row end at a shared store. And
 -- their uses: of the guarantees from one shared store to another, one that acts stands for all.
--- Assumes nothing.
 use mathlib.Core.Path.{_≡_, refl, subst}
 use mathlib.Core.Bool.{Bool, true, false, not}
 use mathlib.Core.List.{List}

@@ -1,7 +1,6 @@
 -- Positions by a plan are in the memory, each kind in its part, and the numbers on the way to them are small. A position is a number in
 -- mixed digits, each below its base; so it is below the product of the bases (`digits-lt`), and omega multiplies that out. The limits of the
 -- document bound every product, so no sum wraps.
--- Assumes nothing.
 use Prim.Native.Nat.{ℕ, _+_, _*_, _/_, _%_, _<_, _≤_}
 use native.Mathlib.Nat.{mul-le-mul, mod-lt, mul-le-mul-right, div-lt-iff-lt-mul}
 use native.Mathlib.Omega.{arith}

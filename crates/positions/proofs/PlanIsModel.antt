@@ -1,14 +1,13 @@
 -- A table's plan gives model's positions: each formula of the document, with pairs for places, is the plan's. Pairs are numbers below
 -- k = G * L, so a fact from the pair j stands j * k places after the fact from pair 0.
--- Assumes nothing.
 use mathlib.Core.Path.{_≡_, refl, ap, _∙_}
 use Prim.Native.Nat.{ℕ, _+_, _*_, _/_, _%_, _<_}
 use native.Mathlib.Nat.{mod-lt, div-add-mod', div-lt-iff-lt-mul}
 use native.Mathlib.Omega.{arith}
-use Rattle.files.specs.Table.{Table, Sound, W, room}
+use Rattle.files.specs.Table.{Table, Sound, W, wOf}
 use Rattle.model.specs.Rules.{G, P, Q}
 use Rattle.model.specs.Positions.{baseP, baseQ, pos}
-use Rattle.files.proofs.RoomLaws.{W-max}
+use Rattle.files.proofs.WLaws.{W-max}
 use Rattle.positions.specs.declared.plan.Plan.{Plan}
 use Rattle.positions.specs.Plans.{Planned, pAt, pFrom, qFrom, gAt, planOf}
 use Rattle.positions.proofs.Places.{small}
@@ -21,7 +20,7 @@ module _ (T : Table) where
   K = T .G * T .L
 
   pub w-is : s .w ≡ W T
-  unfolding W room
+  unfolding W wOf
   w-is = omega arith
 
   pub pos-g : (t g g′ : ℕ) → pos T (G t g g′) ≡ gAt s t g g′

@@ -1,5 +1,4 @@
 -- Two results that a contract allows are equal: for each public function, of its contract as the prover reads it from the source (`Post`).
--- Assumes nothing.
 use Rattle.numbers.proofs.Unique.{same, Fixes}
 use Rattle.positions.proofs.plan.plan_of.Reads as plan-of
 use Rattle.positions.proofs.plan.plan_of.Kinds as plan-of-kinds

@@ -1,11 +1,9 @@
 // The plan of a table: its sizes, worked out once, and where facts and rows of facts stand by them.
 ghost use mathlib.Core.Path.{_≡_};
 ghost use Prim.Native.Nat.{_+_, _*_, _<_, _≤_};
+ghost use Rattle.files.specs.Table.{mostThreads, mostShared, mostLocals, mostFrames};
 ghost use Rattle.positions.specs.Plans.{Planned, pair, pAt, pFrom, qFrom, gAt, sized};
 use cells::columns::Sizes;
-
-// W of the largest table that the limits allow: no table has more facts.
-pub const MOST_FACTS: usize = 2360320;
 
 // n threads, g shared stores, l local stores, f frames; k pairs of a shared and a local store; p and q, where the P and the Q facts begin;
 // w facts in all.
@@ -22,7 +20,7 @@ pub struct Plan {
 
 // The plan of a table with n threads, g shared stores, l local stores and f frames.
 pub fn plan_of(n: usize, g: usize, l: usize, f: usize) -> Plan
-    requires { ⌜ (0 < n) × (n ≤ 4) × (0 < g) × (g ≤ 16) × (0 < l) × (l ≤ 16) × (f ≤ 8) ⌝ }
+    requires { ⌜ (0 < n) × (n ≤ mostThreads) × (0 < g) × (g ≤ mostShared) × (0 < l) × (l ≤ mostLocals) × (f ≤ mostFrames) ⌝ }
     ensures { λ r. ⌜ (r ≡ sized n g l f) × Planned r ⌝ }
 {
     let k = g * l;
@@ -43,8 +41,8 @@ pub fn plan_of(n: usize, g: usize, l: usize, f: usize) -> Plan
 
 // The plan of a table with these sizes.
 pub fn plan_by(sizes: Sizes) -> Plan
-    requires { ⌜ (0 < sizes .threads) × (sizes .threads ≤ 4) × (0 < sizes .shared) × (sizes .shared ≤ 16)
-        × (0 < sizes .locals) × (sizes .locals ≤ 16) × (sizes .frames ≤ 8) ⌝ }
+    requires { ⌜ (0 < sizes .threads) × (sizes .threads ≤ mostThreads) × (0 < sizes .shared) × (sizes .shared ≤ mostShared)
+        × (0 < sizes .locals) × (sizes .locals ≤ mostLocals) × (sizes .frames ≤ mostFrames) ⌝ }
     ensures { λ r. ⌜ (r ≡ sized (sizes .threads) (sizes .shared) (sizes .locals) (sizes .frames)) × Planned r ⌝ }
 {
     let n = sizes.threads as usize;

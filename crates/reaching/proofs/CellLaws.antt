@@ -1,5 +1,4 @@
 -- Cells: what one fits, and the cell of a thread in row 0 and in a row of the file.
--- Assumes nothing.
 use mathlib.Core.Path.{_≡_, refl, ap, _∙_}
 use mathlib.Core.Bool.{Bool, true, false}
 use mathlib.Core.Logic.{inl, inr, if-pos, if-neg}
@@ -12,7 +11,7 @@ use lib.Dec.{eqb}
 use borrow.Author.Tests.{eqb-true, eqb-false}
 use Rattle.model.specs.Errors.{Cell}
 use Rattle.store.specs.Marking.{Is}
-use Rattle.reaching.specs.Reaching.{rowCell, cellAt}
+use Rattle.reaching.specs.Reaching.{rowCell, askedCell}
 
 pub cell-eq : {c d l : ℕ} → c ≡ d → Cell d l → Cell c l
 cell-eq e (inl h) = inl (e ∙ h)
@@ -36,14 +35,14 @@ pub shared-cell : (rows : List ℕ) (i : ℕ) → getD rows (5 * i) 0 ≡ rowCel
 shared-cell rows i = ap (λ (x : ℕ). getD rows x 0) (omega arith)
 
 module _ (failed : ℕ) (rows : List ℕ) {row : ℕ} where
-  pub own-cell : {u t : ℕ} → row ≡ 0 → t ≡ u → cellAt failed rows row u t ≡ failed
-  unfolding cellAt
+  pub own-cell : {u t : ℕ} → row ≡ 0 → t ≡ u → askedCell failed rows row u t ≡ failed
+  unfolding askedCell
   own-cell {u} {t} z e = rw z (if-pos (ℕ-discrete t u) e failed 0)
 
-  pub other-cell : {u t : ℕ} → row ≡ 0 → ¬ (t ≡ u) → cellAt failed rows row u t ≡ 0
-  unfolding cellAt
+  pub other-cell : {u t : ℕ} → row ≡ 0 → ¬ (t ≡ u) → askedCell failed rows row u t ≡ 0
+  unfolding askedCell
   other-cell {u} {t} z n = rw z (if-neg (ℕ-discrete t u) n failed 0)
 
-  pub file-cell : (u t : ℕ) {i : ℕ} → row ≡ suc i → cellAt failed rows row u t ≡ rowCell rows i (1 + t)
-  unfolding cellAt
+  pub file-cell : (u t : ℕ) {i : ℕ} → row ≡ suc i → askedCell failed rows row u t ≡ rowCell rows i (1 + t)
+  unfolding askedCell
   file-cell u t z = rw z refl

@@ -1,5 +1,4 @@
 -- The smallest and the last number of a set, and the thread that is picked.
--- Assumes nothing.
 use mathlib.Core.Path.{_≡_}
 use Prim.Native.Nat.{ℕ, _+_, _≤_, _<_}
 use native.Mathlib.Omega.{arith}

@@ -1,5 +1,4 @@
 -- The local stores that a thread reaches: by the marks, for a cell, and for the cell 0, which fits them all.
--- Assumes nothing.
 use mathlib.Core.Path.{_≡_, refl}
 use mathlib.Core.Bool.{Bool, true, false}
 use mathlib.Core.Logic.{inl}

@@ -1,5 +1,4 @@
 -- Two results that a contract allows are equal: for each public function, of its contract as the prover reads it from the source (`Post`).
--- Assumes nothing.
 use mathlib.Core.Path.{_≡_, subst}
 use mathlib.Core.List.{List}
 use Prim.Native.Nat.{ℕ, _<_}

@@ -53,6 +53,6 @@ pub data Aimed (s : Plan) (failed : ℕ) (rows m : List ℕ) (row g u : ℕ) : T
   fit : (i : ℕ) → row ≡ suc i → Cell (rowCell rows i 0) g → u ≡ 0 → Aimed s failed rows m row g u
 
 -- the cell of thread t in a row; in row 0 it is the failed store for thread u, and any store for the others
-unfoldable pub cellAt : ℕ → List ℕ → ℕ → ℕ → ℕ → ℕ
-cellAt failed rows zero u t = ite (ℕ-discrete t u) failed 0
-cellAt failed rows (suc i) u t = rowCell rows i (1 + t)
+unfoldable pub askedCell : ℕ → List ℕ → ℕ → ℕ → ℕ → ℕ
+askedCell failed rows zero u t = ite (ℕ-discrete t u) failed 0
+askedCell failed rows (suc i) u t = rowCell rows i (1 + t)

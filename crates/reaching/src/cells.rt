@@ -6,7 +6,7 @@ ghost use lib.ListN.{length};
 ghost use Rattle.files.specs.Table.{mostThreads, mostErrors};
 ghost use Rattle.positions.specs.Plans.{Planned};
 ghost use Rattle.store.specs.Marking.{room};
-ghost use Rattle.reaching.specs.Reaching.{Reached, Last, Picked, Aimed, cellAt};
+ghost use Rattle.reaching.specs.Reaching.{Reached, Last, Picked, Aimed, askedCell};
 use crate::reach::cell_fits;
 use crate::reach::least;
 use crate::reach::reached;
@@ -69,7 +69,7 @@ pub fn aim(s: Plan, failed: usize, rows: &[u8], n: usize, mem: &[u8], row: usize
 // The cell of thread t in a row. In row 0 it is the failed store for thread u, and any store for the others.
 pub fn cell_of(failed: usize, rows: &[u8], n: usize, row: usize, u: usize, t: usize) -> usize
     requires { ⌜ (5 * n ≤ length (now rows)) × (n ≤ mostErrors) × (row ≤ n) × (t < mostThreads) ⌝ }
-    ensures { λ r. ⌜ r ≡ cellAt failed (now (rows .entry)) row u t ⌝ }
+    ensures { λ r. ⌜ r ≡ askedCell failed (now (rows .entry)) row u t ⌝ }
 {
     if row == 0 {
         if t == u {

@@ -1,5 +1,4 @@
 -- The words in which a walk is written, gathered from the logic, so that each walk brings them from one place.
--- Assumes nothing.
 
 -- ---- machine values, types and assertions
 pub use mir.Syntax.{named, erased, w64, tyInt}

@@ -2,7 +2,6 @@
 --     ended-left               bytes that are left at a place are bytes after the end there
 --     end-past, end-refused    what an end tells of what was read
 --     end-after                the end of the file after a part is where the whole ends that is made of the part
--- Assumes nothing.
 use mathlib.Core.Path.{_≡_, refl}
 use mathlib.Core.List.{List}
 use mathlib.Core.Bool.{Bool, true, false}

@@ -8,7 +8,6 @@
 --     place-behind                the place of a reader behind a reference is read
 --     lends-reader, takes-back    a reader in memory, a local's or behind an open borrow, is lent for a call, and comes back at its last value
 --     by-reader, by-bytes, by-lent-reader     the parameters of the functions over a reader
--- Assumes nothing.
 use mathlib.Core.Path.{_≡_, refl}
 use Prim.Native.Nat.{ℕ, _<_, _^_}
 use mathlib.Core.List.{List, [], _∷_, _++_}

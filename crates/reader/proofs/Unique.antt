@@ -1,6 +1,5 @@
 -- Two results that a contract allows are equal: for each public function, of its contract as the prover reads it from the source.
 -- Every contract here is an equation for the answer, and for the reader that was lent, so both results equal the same.
--- Assumes nothing.
 use mathlib.Core.Path.{_≡_, refl}
 use mathlib.Core.List.{List}
 use Prim.Native.Nat.{ℕ}

@@ -3,7 +3,6 @@
 --     goes-on                               after a line, the list goes on further on
 --     was-read, was-refused, got-header     what the header's reader tells
 --     header-sizes                          a header that was read has a plan
--- Assumes nothing.
 use mathlib.Core.Path.{_≡_, sym, ap, subst, _∙_}
 use mathlib.Core.List.{List}
 use Prim.Native.Nat.{ℕ, _+_, _≤_, _<_}

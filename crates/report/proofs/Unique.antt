@@ -1,7 +1,6 @@
 -- Two results that a contract allows are equal, the answer and every byte of the lent buffer: for each public function, of its contract as
 -- the prover reads it from the source (`Post`). Of two facts that come next, neither comes before the other, so it is one; and its line is one text
 -- at the start of the same buffer.
--- Assumes nothing.
 use mathlib.Core.Path.{_≡_, refl, sym, _∙_}
 use mathlib.Core.List.{List}
 use Prim.Native.Nat.{ℕ, _+_}

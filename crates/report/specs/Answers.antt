@@ -7,9 +7,9 @@ use Rattle.numbers.specs.Reading.{pick}
 use Rattle.files.specs.Header.{headerAt, headerReadOf}
 use Rattle.verdict.specs.declared.search.Verdict.{Verdict}
 use Rattle.verdict.specs.declared.search.Verdict.the-variants.{Safe, Possible}
-use Rattle.rules.specs.declared.answer.Answer.{Answer}
-use Rattle.rules.specs.declared.answer.Answer.the-variants.{Done, Refused, Short, Over}
-use Rattle.rules.specs.declared.answer.Reply.{Reply}
+use Rattle.check_call.specs.declared.answer.Answer.{Answer}
+use Rattle.check_call.specs.declared.answer.Answer.the-variants.{Done, Refused, Short, Over}
+use Rattle.check_call.specs.declared.answer.Reply.{Reply}
 use Rattle.text.specs.Listing.{factsLine, safeLine, possibleLine, refusedLine}
 
 -- ---- the first line
@@ -29,7 +29,7 @@ lineOfVerdict n (Possible row g l0 l1 l2 l3) = possibleLine row g (take n (l0 �
 abbrev pub verdictLine : ℕ → Answer → List ℕ
 verdictLine n (Done count verdict) = lineOfVerdict n verdict
 verdictLine n (Refused refusal) = []
-verdictLine n (Short room) = []
+verdictLine n (Short w) = []
 verdictLine n (Over budget) = []
 
 -- how many threads a table file has, by its header; none if that is refused, where no check is done

@@ -1,11 +1,11 @@
 // The lines of an answer of the check: the first for any answer, the second for one that has a verdict.
 ghost use mathlib.Core.Path.{_≡_};
 ghost use Rattle.words.specs.Text.{Written};
-ghost use Rattle.rules.specs.Answers.{replyOf};
+ghost use Rattle.check_call.specs.Answers.{replyOf};
 ghost use Rattle.report.specs.Answers.{threadsOf, lineOfReply, lineOfVerdict, verdictLine};
 use files::header::read_header;
-use rules::answer::Answer;
-use rules::answer::reply_of;
+use check_call::answer::Answer;
+use check_call::answer::reply_of;
 use text::lines::ROOM;
 use text::lines::facts_line;
 use text::lines::possible_line;
@@ -60,7 +60,7 @@ pub fn verdict_line(table: &[u8], answer: Answer, out: &mut [u8; ROOM]) -> usize
     match answer {
         Answer::Done { count: _, verdict } => line_of_verdict(verdict, threads_of(table), out),
         Answer::Refused { refusal: _ } => 0,
-        Answer::Short { room: _ } => 0,
+        Answer::Short { w: _ } => 0,
         Answer::Over { budget: _ } => 0,
     }
 }

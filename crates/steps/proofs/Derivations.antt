@@ -1,7 +1,6 @@
 -- Derivations by hand in the borrow checker's rules, for a function with a slice of structs, of which the checker derives none itself. A
 -- derivation is written forward, a line for each statement of the MIR, and the contexts between them, the bodies and the ways out are found. Each
 -- law here is one rule of the checker, said of such judgements. It names no crate.
--- Assumes nothing.
 use Prim.Native.Nat.{ℕ}
 use mathlib.Core.Path.{_≡_, refl}
 use mathlib.Core.Bool.{Bool}
@@ -83,7 +82,7 @@ pub use borrow.Fn.Plain.{Known, t-fn-plain}
 pub use borrow.Fn.Run.{Over}
 pub use borrow.Fn.World.{World}
 -- and of judgements
-pub use Rattle.steps.proofs.Judgements.{u64, n64, v64, bytes, lent, Data, rowOf, tyOf, arrayOf, tyArrayOf, arrayHere, copyOf, valued}
+pub use Rattle.steps.proofs.Judgements.{u64, n64, v64, bytes, lent, Data, structOf, tyOf, arrayOf, tyArrayOf, arrayHere, copyOf, valued}
 pub use Rattle.steps.proofs.Judgements.{valued-laws, pData, rData, _&_, it, dAt, sAt, mAt, Callee, At, Roomy, Is, Like, Shows, Has, Code, Step}
 pub use Rattle.steps.proofs.Judgements.{Quiet, gone, over, over-data, over-array, like, read, slice-arg, mut-arg}
 
@@ -294,55 +293,55 @@ module _ {w : At} where
 
 module _ (w : At) (D : Data) where
   -- a local that holds one yields a copy, and one is made of its value
-  abbrev pub copied : Yields (w .𝓤) (w .H) (w .A) (λ ρ. Unit) (tyOf D) (whole (rowOf D)) (whole (rowOf D)) (rowOf D) (λ x. x) (λ x. x)
+  abbrev pub copied : Yields (w .𝓤) (w .H) (w .A) (λ ρ. Unit) (tyOf D) (whole (structOf D)) (whole (structOf D)) (structOf D) (λ x. x) (λ x. x)
   copied =
-      yields-copy (w .𝓤) (w .H) (w .A) (w .W) (λ ρ. Unit) (rowOf D) refl (copyOf D .copy (w .𝓤) (w .H) (w .A) (w .W)) (whole (rowOf D))
-      (λ x. x) (λ x. x) (λ ρ told. mem-whole (w .𝓤) (w .H) (w .A) (w .W) (rowOf D) ρ)
-      (λ ρ told. whole-mem (w .𝓤) (w .H) (w .A) (w .W) (rowOf D) ρ)
+      yields-copy (w .𝓤) (w .H) (w .A) (w .W) (λ ρ. Unit) (structOf D) refl (copyOf D .copy (w .𝓤) (w .H) (w .A) (w .W)) (whole (structOf D))
+      (λ x. x) (λ x. x) (λ ρ told. mem-whole (w .𝓤) (w .H) (w .A) (w .W) (structOf D) ρ)
+      (λ ρ told. whole-mem (w .𝓤) (w .H) (w .A) (w .W) (structOf D) ρ)
 
-  abbrev pub made : Makes (w .𝓤) (w .H) (w .A) (λ ρ. Unit) (tyOf D) (whole (rowOf D)) (rowOf D) (λ x. x)
+  abbrev pub made : Makes (w .𝓤) (w .H) (w .A) (λ ρ. Unit) (tyOf D) (whole (structOf D)) (structOf D) (λ x. x)
   made =
-      makes-mem (w .𝓤) (w .H) (w .A) (w .W) (λ ρ. Unit) (rowOf D) refl (whole (rowOf D)) (λ x. x)
-      (λ ρ told. whole-mem (w .𝓤) (w .H) (w .A) (w .W) (rowOf D) ρ)
+      makes-mem (w .𝓤) (w .H) (w .A) (w .W) (λ ρ. Unit) (structOf D) refl (whole (structOf D)) (λ x. x)
+      (λ ρ told. whole-mem (w .𝓤) (w .H) (w .A) (w .W) (structOf D) ρ)
 
   -- and so of an array of them
   module _ (n : ℕ) where
     abbrev pub copied-array : Yields (w .𝓤) (w .H) (w .A) (λ ρ. Unit) (tyArrayOf D n) (arrayHere D n) (arrayHere D n) (arrayOf D n)
         (λ x. x) (λ x. x)
     copied-array =
-        yields-copy (w .𝓤) (w .H) (w .A) (w .W) (λ ρ. Unit) (arrayOf D n) refl (cArr (rowOf D) (copyOf D) n .copy (w .𝓤) (w .H) (w .A) (w .W))
-        (arrayHere D n) (λ x. x) (λ x. x) (λ ρ told. mem-arr (w .𝓤) (w .H) (w .A) (w .W) (rowOf D) n ρ)
-        (λ ρ told. arr-mem (w .𝓤) (w .H) (w .A) (w .W) (rowOf D) n tt ρ)
+        yields-copy (w .𝓤) (w .H) (w .A) (w .W) (λ ρ. Unit) (arrayOf D n) refl (cArr (structOf D) (copyOf D) n .copy (w .𝓤) (w .H) (w .A) (w .W))
+        (arrayHere D n) (λ x. x) (λ x. x) (λ ρ told. mem-arr (w .𝓤) (w .H) (w .A) (w .W) (structOf D) n ρ)
+        (λ ρ told. arr-mem (w .𝓤) (w .H) (w .A) (w .W) (structOf D) n tt ρ)
 
     abbrev pub made-array : Makes (w .𝓤) (w .H) (w .A) (λ ρ. Unit) (tyArrayOf D n) (arrayHere D n) (arrayOf D n) (λ x. x)
     made-array =
         makes-mem (w .𝓤) (w .H) (w .A) (w .W) (λ ρ. Unit) (arrayOf D n) refl (arrayHere D n) (λ x. x)
-        (λ ρ told. arr-mem (w .𝓤) (w .H) (w .A) (w .W) (rowOf D) n tt ρ)
+        (λ ρ told. arr-mem (w .𝓤) (w .H) (w .A) (w .W) (structOf D) n tt ρ)
 
 module _ {w : At} (D : Data) where
   -- the struct at ny is copied to nd
-  abbrev pub copies : {Γ : Cx} (ny nd : ℕ) (h : ent₁ Γ ny nd .1 .Mod → rowOf D .Denot) (k : ent₁ Γ ny nd .1 .Mod → whole (rowOf D) .Mod)
-      → Yields (w .𝓤) (w .H) (w .A) (λ ρ. Unit) (tyOf D) (ent₁ Γ ny nd .1) (whole (rowOf D)) (rowOf D) h k
+  abbrev pub copies : {Γ : Cx} (ny nd : ℕ) (h : ent₁ Γ ny nd .1 .Mod → structOf D .Denot) (k : ent₁ Γ ny nd .1 .Mod → whole (structOf D) .Mod)
+      → Yields (w .𝓤) (w .H) (w .A) (λ ρ. Unit) (tyOf D) (ent₁ Γ ny nd .1) (whole (structOf D)) (structOf D) h k
       → Roomy w (ent₂ Γ ny nd .1) (tyOf D) → Is w (ent₁ Γ ny nd .0) (tyOf D) → Is w (ent₂ Γ ny nd .0) (tyOf D)
       → Step w Γ (assign (place (ent₂ Γ ny nd .0) []) (rvOpd (copy (place (ent₁ Γ ny nd .0) []))))
-      (AfterCopy Γ ny nd (whole (rowOf D)) (whole (rowOf D)))
-  copies ny nd h k y tr e₁ e₂ = copies-as (rowOf D) (tyOf D) (whole (rowOf D)) ny nd h k (λ x. x) y tr (made w D) e₁ e₂
+      (AfterCopy Γ ny nd (whole (structOf D)) (whole (structOf D)))
+  copies ny nd h k y tr e₁ e₂ = copies-as (structOf D) (tyOf D) (whole (structOf D)) ny nd h k (λ x. x) y tr (made w D) e₁ e₂
 
   -- the struct is copied to ny that the pointer at nq points to: the element of the slice at ns whose number is at ni. dv is what stands past
   -- the end.
-  abbrev pub reads-element : {Γ : Cx} (ns ni nq ny α : ℕ) (τ : Ty) (l : Life) (pos : ℕ → ℕ → ℕ) (dv : rowOf D .Denot)
-      (hs : ent₁ Γ ns nq .1 .Mod → RefT (List (rowOf D .Denot))) (hi : getRow ni (Γ .locals) .1 .Mod → ℕ) (hq : ent₂ Γ ns nq .1 .Mod → ℕ × ℕ)
-      → ((i o : ℕ) → at o (mem (rowOf D) .size) i ≡ pos i o) → Like w (ent₁ Γ ns nq .1) (sslice (rowOf D) τ α) hs
+  abbrev pub reads-element : {Γ : Cx} (ns ni nq ny α : ℕ) (τ : Ty) (l : Life) (pos : ℕ → ℕ → ℕ) (dv : structOf D .Denot)
+      (hs : ent₁ Γ ns nq .1 .Mod → RefT (List (structOf D .Denot))) (hi : getRow ni (Γ .locals) .1 .Mod → ℕ) (hq : ent₂ Γ ns nq .1 .Mod → ℕ × ℕ)
+      → ((i o : ℕ) → at o (mem (structOf D) .size) i ≡ pos i o) → Like w (ent₁ Γ ns nq .1) (sslice (structOf D) τ α) hs
       → Like w (ent₂ Γ ns nq .1) (sc-here sPtr) hq → Roomy w (getRow ny (tab₂ Γ ns nq) .1) (tyOf D) → getLife α (Γ .slots) ≡ l → IsTok l
       → Is w (ent₂ Γ ns nq .0) tyPtr → Is w (getRow ny (tab₂ Γ ns nq) .0) (tyOf D)
       → Step w Γ (assign (place (getRow ny (tab₂ Γ ns nq) .0) []) (rvOpd (copy (place (ent₂ Γ ns nq .0) (deref (tyOf D) ∷ [])))))
-      (AfterShs (rowOf D) Γ ns nq ny α τ l (whole (rowOf D)))
+      (AfterShs (structOf D) Γ ns nq ny α τ l (whole (structOf D)))
   reads-element {Γ} ns ni nq ny α τ l pos dv hs hi hq sz a₁ a₂ tr e tk e₁ e₂ = record {
-    φ = Φshs-copy-out (rowOf D) Γ ns nq ny α τ l (whole (rowOf D)) pos (λ u. hi (get ni (Γ .locals) u)) (λ x. x) dv (λ x. Unit) hs hq;
-    stmt = t-shs-copy-out (w .𝓤) (w .H) (w .A) (w .W) (w .E) (rowOf D) (w .𝓣) refl (copyOf D .copy (w .𝓤) (w .H) (w .A) (w .W))
-        (halved (w .𝓤) (w .H) (w .A) (w .W) (copyOf D)) (λ ρ. Unit) Γ ns nq ny α τ l (tyOf D) (tyOf D) (whole (rowOf D)) pos
+    φ = Φshs-copy-out (structOf D) Γ ns nq ny α τ l (whole (structOf D)) pos (λ u. hi (get ni (Γ .locals) u)) (λ x. x) dv (λ x. Unit) hs hq;
+    stmt = t-shs-copy-out (w .𝓤) (w .H) (w .A) (w .W) (w .E) (structOf D) (w .𝓣) refl (copyOf D .copy (w .𝓤) (w .H) (w .A) (w .W))
+        (halved (w .𝓤) (w .H) (w .A) (w .W) (copyOf D)) (λ ρ. Unit) Γ ns nq ny α τ l (tyOf D) (tyOf D) (whole (structOf D)) pos
         (λ u. hi (get ni (Γ .locals) u)) (λ x. x) dv (λ x. Unit) hs hq sz refl refl (told-none (w .𝓤) (w .H) (w .A) (Γ .slots))
-        (learns-nothing (w .𝓤) (w .H) (w .A) (rowOf D)) a₁ a₂ tr (made w D) e tk e₁ e₂;
+        (learns-nothing (w .𝓤) (w .H) (w .A) (structOf D)) a₁ a₂ tr (made w D) e tk e₁ e₂;
   }
 
   -- the array of them at ny is copied to nd

@@ -1,5 +1,4 @@
 -- What derivations by hand speak of: types, the arguments of a call, and judgements. A judgement carries its own transformer. It names no crate.
--- Assumes nothing.
 use Prim.Native.Nat.{ℕ}
 use mathlib.Core.Path.{_≡_, refl}
 use mathlib.Core.List.{List, []}
@@ -76,35 +75,35 @@ pub record Data : Type 2 where
   pub copies : Copyables (type .parts)
   pub plain : Plains (Structs.fields type)
 
-abbrev pub rowOf : Data → RattleType
-rowOf D = Structs.row (D .type)
+abbrev pub structOf : Data → RattleType
+structOf D = Structs.row (D .type)
 
 -- its type as the MIR writes it
 abbrev pub tyOf : Data → Ty
-tyOf D = lone (rowOf D .mir)
+tyOf D = lone (structOf D .mir)
 
 -- an array of n such structs: the type, as the MIR writes it, and as a local holds it
 abbrev pub arrayOf : Data → ℕ → RattleType
-arrayOf D n = Array (rowOf D) n
+arrayOf D n = Array (structOf D) n
 
 abbrev pub tyArrayOf : Data → ℕ → Ty
 tyArrayOf D n = tyArray (tyOf D) n
 
 abbrev pub arrayHere : Data → ℕ → Row
-arrayHere D n = arrF (rowOf D) n 0
+arrayHere D n = arrF (structOf D) n 0
 
-abbrev pub copyOf : (D : Data) → Cp (rowOf D)
+abbrev pub copyOf : (D : Data) → Cp (structOf D)
 copyOf D = cStruct (D .type) (D .laws) (D .copies)
 
 -- it is passed and answered by value
 abbrev pub valued : Data → Valued
 valued D = record {
-  ty = rowOf D;
+  ty = structOf D;
   one = refl;
   val = StructLaws.val (D .type) (D .laws);
   tells = StructLaws.tells (D .type) (D .laws);
   still = StructLaws.still (D .type) (D .copies) yes;
-  row = whole (rowOf D);
+  row = whole (structOf D);
   rd = λ x. x;
   mk = λ x. x;
 }
@@ -114,8 +113,8 @@ valued-laws D M 𝓤 H A W = record {
   copies = StructLaws.copy (D .type) (D .copies) 𝓤 H A W;
   lawful = StructLaws.lawful (D .type) (D .laws) 𝓤 H A W;
   makes = StructLaws.makes (D .type) (D .plain) 𝓤 H A;
-  in-mem = mem-whole 𝓤 H A W (rowOf D);
-  of-mem = whole-mem 𝓤 H A W (rowOf D);
+  in-mem = mem-whole 𝓤 H A W (structOf D);
+  of-mem = whole-mem 𝓤 H A W (structOf D);
 }
 
 abbrev pub pData : {n : ℕ} → Data → PK n
@@ -136,7 +135,7 @@ abbrev pub it : {X : Type 0} → X → X
 it x = x
 
 -- an argument that is passed by value, lent, or lent to be changed: where it stands, and what it is by what that local holds
-abbrev pub dAt : {L : List Entry} (D : Data) (pos : ℕ) → (getRow pos L .1 .Mod → rowOf D .Denot) → ValAt (valued D) L
+abbrev pub dAt : {L : List Entry} (D : Data) (pos : ℕ) → (getRow pos L .1 .Mod → structOf D .Denot) → ValAt (valued D) L
 dAt D pos f = record { pos = pos; st = []; d = 0; at = f }
 
 abbrev pub sAt : {L : List Entry} (R : RattleType) (pos : ℕ) (τ : Ty) → (getRow pos L .1 .Mod → RefT (List (R .Denot))) → ShrSArg R L
@@ -199,11 +198,11 @@ module _ (w : At) where
   abbrev pub over : (σ : Sc) → Roomy (sc-here σ) (tyS σ)
   over σ = room-sc (w .𝓤) (w .H) (w .A) (w .W) σ
 
-  abbrev pub over-data : (D : Data) → Roomy (whole (rowOf D)) (tyOf D)
-  over-data D = room-whole (w .𝓤) (w .H) (w .A) (w .W) (rowOf D) (tyOf D) refl
+  abbrev pub over-data : (D : Data) → Roomy (whole (structOf D)) (tyOf D)
+  over-data D = room-whole (w .𝓤) (w .H) (w .A) (w .W) (structOf D) (tyOf D) refl
 
   abbrev pub over-array : (D : Data) (n : ℕ) → Roomy (arrayHere D n) (tyArrayOf D n)
-  over-array D n = room-arr (w .𝓤) (w .H) (w .A) (w .W) (rowOf D) n 0 n (add-zero n)
+  over-array D n = room-arr (w .𝓤) (w .H) (w .A) (w .W) (structOf D) n 0 n (add-zero n)
 
   abbrev pub like : (ρ : Row) → Like ρ ρ (λ x. x)
   like ρ = as-is (w .𝓤) (w .H) (w .A) ρ

@@ -1,5 +1,4 @@
 -- The first n of a list of rows that was read from bytes are the rows of those bytes: so they are in range, and their uses are the same.
--- Assumes nothing.
 use mathlib.Core.Path.{_≡_, sym, subst, _∙_}
 use mathlib.Core.Bool.{Bool}
 use mathlib.Core.List.{List}
@@ -9,7 +8,7 @@ use lib.ListN.{length, take}
 use lib.Seq.{length-take-le, getD-take}
 use Rattle.positions.specs.declared.plan.Plan.{Plan}
 use Rattle.store.specs.declared.rows.Row.{Row}
-use Rattle.store.specs.Reading.{rowOf, zeroRow, nth, Listed}
+use Rattle.store.specs.Reading.{rowOf, zeroRow, nth, Unpacked}
 use Rattle.uses.specs.declared.lines.Pass.{Pass}
 use Rattle.uses.specs.Ranges.{RowIn, EachIn}
 use Rattle.uses.specs.Uses.{Uses}
@@ -23,7 +22,7 @@ rows-same : (t : ℕ) (U : Row → Uses) {row row′ : ℕ → Row} {n n′ : �
 rows-same t U e h q x y u =
     record { k = u .k; lt = omega (arith, u .lt); given = subst (λ (r : Row). OfRow t U r q x y) (h (u .k) (u .lt)) (u .given) }
 
-module _ {bytes : List ℕ} {n : ℕ} (rows : List Row) (listed : Listed bytes n rows) (long : n ≤ length rows) where
+module _ {bytes : List ℕ} {n : ℕ} (rows : List Row) (listed : Unpacked bytes n rows) (long : n ≤ length rows) where
   pub taken-length : length (take n rows) ≡ n
   taken-length = length-take-le n rows long
 

@@ -1,5 +1,4 @@
 -- The kinds of the walker's parameters and of its result, and the three structs in them.
--- Assumes nothing.
 use mathlib.Core.List.{List, [], _∷_}
 use denote.Memory.{pointee}
 use borrow.Fn.Kinds.{PK, RK, pNum, pBool}
@@ -11,7 +10,7 @@ use Rattle.store.proofs.rows.Row as row
 use Rattle.store.proofs.rows.Row.Laws as row-laws
 use Rattle.uses.proofs.lines.Pass as pass
 use Rattle.uses.proofs.lines.Pass.Laws as pass-laws
-use Rattle.steps.proofs.Derivations.{Ty, w64, Data, rowOf, pData, rData, bytes}
+use Rattle.steps.proofs.Derivations.{Ty, w64, Data, structOf, pData, rData, bytes}
 
 abbrev pub Plans : Data
 Plans = record { type = plan.the-type; laws = plan-laws.the-laws; copies = plan-laws.the-copy; plain = plan-laws.the-plain }
@@ -28,7 +27,7 @@ row-named = pointee (row.the-row .written)
 
 -- rows, s, t, a, mem, put, pass
 abbrev pub ps : List (PK 2)
-ps = pShrS (rowOf Rows) 0 tt ∷ pData Plans ∷ pNum w64 ∷ pNum w64 ∷ pMutS bytes 1 tt ∷ pBool ∷ pData Passes ∷ []
+ps = pShrS (structOf Rows) 0 tt ∷ pData Plans ∷ pNum w64 ∷ pNum w64 ∷ pMutS bytes 1 tt ∷ pBool ∷ pData Passes ∷ []
 
 abbrev pub r : RK 2
 r = rData Passes

@@ -1,5 +1,4 @@
 -- The walker's contract, read for its own proof (`Pre`, `Post`) and for its callers (`Asked`, `Learnt`, `known`).
--- Assumes nothing.
 use mathlib.Core.Path.{refl}
 use base.Logic.{emp, id⊢}
 use contract.Lifetimes.{Lfts}

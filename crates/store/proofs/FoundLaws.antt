@@ -1,5 +1,4 @@
 -- What a test over many places gathers: 1 if it holds somewhere, else 0. Or and And on such numbers say what they say of the tests.
--- Assumes nothing.
 use mathlib.Core.Path.{_≡_, subst}
 use mathlib.Core.Bool.{Bool, true, false, not}
 use mathlib.Core.Logic.{_⊎_, inl, inr, ⊎-elim}

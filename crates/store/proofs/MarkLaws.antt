@@ -1,6 +1,5 @@
 -- The laws of marks. A mark that was put is there, and no other mark comes or goes; so the marks are 0 or 1 as before, and there is one
 -- more. What model says of a memory through its marks (Marked, Bits, total) is said here by Has.
--- Assumes nothing.
 use mathlib.Core.Path.{_≡_, refl, sym, ap, _∙_}
 use mathlib.Core.Bool.{Bool, true, false}
 use mathlib.Core.List.{List, _++_}

@@ -4,7 +4,6 @@
 --     next-found, next-end                what was found: before the end it is the first mark, and at the end there is none
 --     next-past                           the next mark is not before the place that it is looked for from
 --     next-first, next-skip               where that place is marked it is there; else it is the next one of the place after
--- Assumes nothing.
 use mathlib.Core.Path.{_≡_, refl}
 use mathlib.Core.List.{List}
 use Prim.Native.Nat.{ℕ, _+_, _≤_, _<_}

@@ -1,5 +1,4 @@
 -- A list of rows is filled from the front: it begins with rows of zeros, and each row that is stored is one more of the bytes' rows.
--- Assumes nothing.
 use mathlib.Core.Path.{_≡_, refl, _∙_}
 use mathlib.Core.List.{List}
 use Prim.Native.Nat.{ℕ, zero, suc, _+_, _<_}
@@ -9,7 +8,7 @@ use lib.ListN.{length, replicate, set}
 use lib.Seq.{getD-set-same, getD-set-other}
 use borrow.Author.Count.{below-more}
 use Rattle.store.specs.declared.rows.Row.{Row}
-use Rattle.store.specs.Reading.{rowOf, zeroRow, nth, Listed}
+use Rattle.store.specs.Reading.{rowOf, zeroRow, nth, Unpacked}
 
 -- every row of a list of zero rows is one, and past its end too
 zeros-nth : (n k : ℕ) → nth (replicate n zeroRow) k ≡ zeroRow
@@ -17,11 +16,11 @@ zeros-nth zero k = refl
 zeros-nth (suc n) zero = refl
 zeros-nth (suc n) (suc k) = zeros-nth n k
 
-pub listed-none : {bytes : List ℕ} (n : ℕ) → Listed bytes 0 (replicate n zeroRow)
+pub listed-none : {bytes : List ℕ} (n : ℕ) → Unpacked bytes 0 (replicate n zeroRow)
 listed-none n = record { read = λ k l. absurd (not-suc-le-zero l); rest = λ k l. zeros-nth n k }
 
-pub listed-next : {bytes : List ℕ} (rows : List Row) (i : ℕ) (r : Row) → i < length rows → r ≡ rowOf bytes i → Listed bytes i rows
-    → Listed bytes (i + 1) (set rows i r)
+pub listed-next : {bytes : List ℕ} (rows : List Row) (i : ℕ) (r : Row) → i < length rows → r ≡ rowOf bytes i → Unpacked bytes i rows
+    → Unpacked bytes (i + 1) (set rows i r)
 listed-next {bytes} rows i r l e h =
     record {
       read =

@@ -1,7 +1,6 @@
 -- Two results that a contract allows are equal: for each public function, of its contract as the prover reads it from the source (`Post`), with
 -- every byte lent. Most contracts are equations for the answer or the memory. Those that are none come first: what a test answers, the next mark,
 -- a memory whose first marks are taken off, and a list of rows, whose length is its type's.
--- Assumes nothing.
 use mathlib.Core.Path.{_≡_, refl, sym, ap₂, _∙_}
 use mathlib.Core.Bool.{Bool, true, false}
 use mathlib.Core.List.{List, _++_}
@@ -19,7 +18,7 @@ use Rattle.model.proofs.Unique.{first-same}
 use Rattle.store.specs.declared.rows.Row.{Row}
 use Rattle.store.specs.Marking.{Is, NextMark, here, nowhere}
 use Rattle.store.specs.Clearing.{Cleared}
-use Rattle.store.specs.Reading.{zeroRow, nth, Listed}
+use Rattle.store.specs.Reading.{zeroRow, nth, Unpacked}
 use Rattle.store.proofs.marks.has.Reads as has
 use Rattle.store.proofs.marks.has.Kinds as has-kinds
 use Rattle.store.proofs.marks.some.Reads as some
@@ -63,7 +62,7 @@ parts-same w {m} {m′} e q = sym (take-append-drop w m) ∙ ap₂ (λ (x y : Li
 pub cleared-unique : {w : ℕ} {m m₁ m₂ : List ℕ} → Cleared w m m₁ → Cleared w m m₂ → m₁ ≡ m₂
 cleared-unique {w} c c′ = parts-same w (same (c .zeros) (c′ .zeros)) (same (c .rest) (c′ .rest))
 
-pub listed-unique : {bytes : List ℕ} {n : ℕ} {rows rows′ : List Row} → length rows ≡ length rows′ → Listed bytes n rows → Listed bytes n rows′
+pub listed-unique : {bytes : List ℕ} {n : ℕ} {rows rows′ : List Row} → length rows ≡ length rows′ → Unpacked bytes n rows → Unpacked bytes n rows′
     → rows ≡ rows′
 listed-unique {n} {rows} {rows′} long z z′ = ext-getD zeroRow rows rows′ long (λ k l. each k (decLt k n))
   where

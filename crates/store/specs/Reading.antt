@@ -28,19 +28,19 @@ abbrev pub nth : List Row → ℕ → Row
 nth rows k = getD rows k zeroRow
 
 -- a list of rows has the first n rows of a list of bytes, and rows of zeros after them
-pub record Listed (bytes : List ℕ) (n : ℕ) (rows : List Row) : Type 0 where
+pub record Unpacked (bytes : List ℕ) (n : ℕ) (rows : List Row) : Type 0 where
   pub read : (k : ℕ) → k < n → nth rows k ≡ rowOf bytes k
   pub rest : (k : ℕ) → n ≤ k → nth rows k ≡ zeroRow
 
 -- the row as each of the three kinds
-abbrev pub stepOf : Row → Step
-stepOf r = record { t = r .t; g = r .g; l = r .l; g′ = r .u; l′ = r .v }
+abbrev pub asStep : Row → Step
+asStep r = record { t = r .t; g = r .g; l = r .l; g′ = r .u; l′ = r .v }
 
-abbrev pub pushOf : Row → Push
-pushOf r = record { t = r .t; g = r .g; l = r .l; l′ = r .u; f = r .v }
+abbrev pub asPush : Row → Push
+asPush r = record { t = r .t; g = r .g; l = r .l; l′ = r .u; f = r .v }
 
-abbrev pub popOf : Row → Pop
-popOf r = record { t = r .t; g = r .g; l = r .l; f = r .u; l′ = r .v }
+abbrev pub asPop : Row → Pop
+asPop r = record { t = r .t; g = r .g; l = r .l; f = r .u; l′ = r .v }
 
 -- a is one of the first n rows
 pub record Nth {A : Type 0} (of : Row → A) (rows : List ℕ) (n : ℕ) (a : A) : Type 0 where
@@ -55,6 +55,6 @@ pub record Same {A : Type 0} (of : Row → A) (rows : List ℕ) (n : ℕ) (l : L
 
 -- the lent rows are the table's
 pub record Reads (T : Table) (n : RowCounts) (st pu po : List ℕ) : Type 0 where
-  pub steps : Same stepOf st (n .steps) (T .steps)
-  pub pushes : Same pushOf pu (n .pushes) (T .pushes)
-  pub pops : Same popOf po (n .pops) (T .pops)
+  pub steps : Same asStep st (n .steps) (T .steps)
+  pub pushes : Same asPush pu (n .pushes) (T .pushes)
+  pub pops : Same asPop po (n .pops) (T .pops)

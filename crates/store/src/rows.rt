@@ -2,7 +2,9 @@
 ghost use mathlib.Core.Path.{_≡_};
 ghost use Prim.Native.Nat.{_+_, _*_, _<_, _≤_};
 ghost use lib.ListN.{length, getD};
-ghost use Rattle.store.specs.Reading.{rowOf, Listed};
+ghost use Rattle.files.specs.Table.{mostSteps};
+ghost use Rattle.store.specs.Reading.{rowOf, Unpacked};
+use files::table::STEP_ROWS;
 
 // A row of five numbers: its thread, its place g, l, and two more. These are g', l' of a step row; l', f of a push row; f, l' of a pop row.
 pub struct Row {
@@ -55,9 +57,9 @@ pub fn row_at(rows: &[u8], i: usize) -> Row
 }
 
 // The first n step rows as a list of structs, and rows of zeros after them.
-pub fn step_rows(steps: &[u8], n: usize) -> [Row; 1024]
-    requires { ⌜ (n ≤ 1024) × (n * 5 ≤ length (now steps)) ⌝ }
-    ensures { λ r. ⌜ Listed (now (steps .entry)) n r ⌝ }
+pub fn step_rows(steps: &[u8], n: usize) -> [Row; STEP_ROWS]
+    requires { ⌜ (n ≤ mostSteps) × (n * 5 ≤ length (now steps)) ⌝ }
+    ensures { λ r. ⌜ Unpacked (now (steps .entry)) n r ⌝ }
 {
     let zeros = Row {
         t: 0,
@@ -66,7 +68,7 @@ pub fn step_rows(steps: &[u8], n: usize) -> [Row; 1024]
         u: 0,
         v: 0,
     };
-    let mut rows = [zeros; 1024];
+    let mut rows = [zeros; STEP_ROWS];
     let mut i: usize = 0;
     while i < n {
         let r = row_at(steps, i);

@@ -1,5 +1,4 @@
 -- The lines that the document prints are those of the definitions, by computation.
--- Assumes nothing.
 use mathlib.Core.Path.{_≡_, refl}
 use mathlib.Core.List.{[], _∷_, _++_}
 use Rattle.words.specs.Text.{bytes, digits, decimal, fields, line}

@@ -1,5 +1,4 @@
 -- The numbers of a witness.
--- Assumes nothing.
 use mathlib.Core.Path.{_≡_, sym, _∙_}
 use mathlib.Core.List.{List, _∷_}
 use Prim.Native.Nat.{ℕ, suc, min, _+_, _≤_}

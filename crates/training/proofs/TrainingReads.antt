@@ -1,5 +1,4 @@
 -- The files of the two tables read as the tables, by evaluation.
--- Assumes nothing.
 use mathlib.Core.Path.{_≡_, refl}
 use Rattle.numbers.specs.Reading.{got}
 use Rattle.files.specs.File.{tableAt}

@@ -1,6 +1,5 @@
 -- The tables of Simple follow their rule. One test goes through a list and the rule's numbers side by side, and antt computes it over the whole
 -- table. One law turns the passed test into what holds at each entry: it is the rule's number, and below 128.
--- Assumes nothing.
 use mathlib.Core.Path.{_≡_, refl, ap₂}
 use mathlib.Core.Bool.{Bool, true, false, _&&_, and-eq-true-iff, false≢true}
 use mathlib.Core.List.{List, [], _∷_}
@@ -88,6 +87,6 @@ pub training-errors : length (training .errors) ≡ 28
 unfolding training
 training-errors = refl
 
-pub training-room : W training ≡ 9600
+pub training-w : W training ≡ 9600
 unfolding W training
-training-room = refl
+training-w = refl

@@ -1,5 +1,4 @@
 -- Two results that a contract allows are equal.
--- Assumes nothing.
 use Rattle.numbers.proofs.Unique.{same, Fixes}
 use Rattle.training.proofs.file.Reads as file
 use Rattle.training.proofs.file.Kinds as file-kinds

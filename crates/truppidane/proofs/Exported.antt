@@ -13,10 +13,10 @@ use native.Mathlib.Omega.{arith}
 use lib.ListN.{getD}
 use Rattle.verdict.specs.declared.search.Verdict.{Verdict}
 use Rattle.verdict.specs.declared.search.Verdict.the-variants.{Safe, Possible}
-use Rattle.rules.specs.declared.answer.Answer.{Answer}
-use Rattle.rules.specs.declared.answer.Answer.the-variants.{Done}
-use Rattle.rules.specs.Answers.{replyOf}
-use Rattle.rules.specs.Checking.{Checked, CheckDone}
+use Rattle.check_call.specs.declared.answer.Answer.{Answer}
+use Rattle.check_call.specs.declared.answer.Answer.the-variants.{Done}
+use Rattle.check_call.specs.Answers.{replyOf}
+use Rattle.check_call.specs.Checking.{Checked, CheckDone}
 use Rattle.claims.specs.Owed.{Changes, RunsSafely}
 use Rattle.claims.proofs.Changes.{check-changes, claim-changes, write-changes}
 use Rattle.claims.proofs.Numbers as numbers

@@ -1,6 +1,5 @@
 -- Two results of an exported function that its contract allows are equal: the number that it gives, every byte of what it is lent, and the numbers
 -- that tell the answer. For the answer is one, and so are its numbers.
--- Assumes nothing.
 use mathlib.Core.Path.{_≡_, sym, ap, _∙_}
 use mathlib.Core.List.{List}
 use Prim.Native.Nat.{ℕ}
@@ -8,15 +7,15 @@ use contract.Lifetimes.{Lfts}
 use denote.Ref.{now}
 use denote.Triple.Clauses.{AtExit}
 use borrow.Fn.Kinds.{Dens, endedOf}
-use Rattle.rules.specs.declared.answer.Answer.{Answer}
-use Rattle.rules.specs.Answers.{replyOf}
-use Rattle.rules.proofs.Unique.{checked-same}
-use Rattle.claim_checking.specs.declared.answer.ClaimAnswer.{ClaimAnswer}
-use Rattle.claim_writing.specs.declared.answer.WriteAnswer.{WriteAnswer}
-use Rattle.claim_checking.specs.Answers as claim
-use Rattle.claim_writing.specs.Answers.{writeReplyOf}
-use Rattle.claim_checking.proofs.Unique.{claim-checked-same}
-use Rattle.claim_writing.proofs.Unique.{claim-written-same}
+use Rattle.check_call.specs.declared.answer.Answer.{Answer}
+use Rattle.check_call.specs.Answers.{replyOf}
+use Rattle.check_call.proofs.Unique.{checked-same}
+use Rattle.claim_check_call.specs.declared.answer.ClaimAnswer.{ClaimAnswer}
+use Rattle.claim_write_call.specs.declared.answer.WriteAnswer.{WriteAnswer}
+use Rattle.claim_check_call.specs.Answers as claim
+use Rattle.claim_write_call.specs.Answers.{writeReplyOf}
+use Rattle.claim_check_call.proofs.Unique.{claim-checked-same}
+use Rattle.claim_write_call.proofs.Unique.{claim-written-same}
 use Rattle.truppidane.specs.Told.{checkNumbers, writeNumbers, claimNumbers}
 use Rattle.truppidane.specs.Calls.{CheckTold, WriteTold, ClaimTold}
 use Rattle.truppidane.proofs.calls.truppidane_check.Reads as check
@@ -51,7 +50,7 @@ pub claim-told-same : {s c m : List ℕ} {r r′ : ℕ} {m₁ m₂ told told′ 
     → ClaimTold s c m r m₁ told → ClaimTold s c m r′ m₂ told′ → (r ≡ r′) × (m₁ ≡ m₂) × (told ≡ told′)
 claim-told-same x y =
     let (e, bytes) = claim-checked-same (x .checked) (y .checked) in
-    (told-same (λ (a : ClaimAnswer). claim.replyOf a .number) e (x .number) (y .number), bytes, told-same claimNumbers e (x .numbers) (y .numbers))
+    (told-same (λ (a : ClaimAnswer). claim.claimReplyOf a .number) e (x .number) (y .number), bytes, told-same claimNumbers e (x .numbers) (y .numbers))
 
 -- ---- the contracts as the prover reads them from the source
 

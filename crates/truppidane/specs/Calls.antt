@@ -3,15 +3,15 @@
 use mathlib.Core.Path.{_≡_}
 use mathlib.Core.List.{List}
 use Prim.Native.Nat.{ℕ}
-use Rattle.rules.specs.declared.answer.Answer.{Answer}
-use Rattle.rules.specs.Answers.{replyOf}
-use Rattle.rules.specs.Checking.{Checked}
-use Rattle.claim_checking.specs.declared.answer.ClaimAnswer.{ClaimAnswer}
-use Rattle.claim_writing.specs.declared.answer.WriteAnswer.{WriteAnswer}
-use Rattle.claim_checking.specs.Answers as claim
-use Rattle.claim_writing.specs.Answers.{writeReplyOf}
-use Rattle.claim_checking.specs.ClaimChecking.{ClaimChecked}
-use Rattle.claim_writing.specs.ClaimWriting.{ClaimWritten}
+use Rattle.check_call.specs.declared.answer.Answer.{Answer}
+use Rattle.check_call.specs.Answers.{replyOf}
+use Rattle.check_call.specs.Checking.{Checked}
+use Rattle.claim_check_call.specs.declared.answer.ClaimAnswer.{ClaimAnswer}
+use Rattle.claim_write_call.specs.declared.answer.WriteAnswer.{WriteAnswer}
+use Rattle.claim_check_call.specs.Answers as claim
+use Rattle.claim_write_call.specs.Answers.{writeReplyOf}
+use Rattle.claim_check_call.specs.ClaimChecking.{ClaimChecked}
+use Rattle.claim_write_call.specs.ClaimWriting.{ClaimWritten}
 use Rattle.truppidane.specs.Told.{checkNumbers, writeNumbers, claimNumbers}
 
 -- the check of the file s within a budget, in the memory m, which is left as m′
@@ -32,5 +32,5 @@ pub record WriteTold (s : List ℕ) (budget : ℕ) (m d : List ℕ) (r : ℕ) (m
 pub record ClaimTold (s c m : List ℕ) (r : ℕ) (m′ told : List ℕ) : Type 0 where
   pub answer : ClaimAnswer
   pub checked : ClaimChecked s c m answer m′
-  pub number : r ≡ claim.replyOf answer .number
+  pub number : r ≡ claim.claimReplyOf answer .number
   pub numbers : told ≡ claimNumbers answer

@@ -4,19 +4,19 @@ use mathlib.Core.List.{List, [], _∷_}
 use Prim.Native.Nat.{ℕ}
 use Rattle.verdict.specs.declared.search.Verdict.{Verdict}
 use Rattle.verdict.specs.declared.search.Verdict.the-variants.{Safe, Possible}
-use Rattle.rules.specs.declared.answer.Answer.{Answer}
-use Rattle.rules.specs.declared.answer.Answer.the-variants as check
-use Rattle.rules.specs.declared.answer.Reply.{Reply}
-use Rattle.rules.specs.Answers.{replyOf}
-use Rattle.claim_checking.specs.declared.answer.ClaimAnswer.{ClaimAnswer}
-use Rattle.claim_writing.specs.declared.answer.WriteAnswer.{WriteAnswer}
-use Rattle.claim_checking.specs.Answers as claim
-use Rattle.claim_writing.specs.Answers.{writeReplyOf, whereWritten}
+use Rattle.check_call.specs.declared.answer.Answer.{Answer}
+use Rattle.check_call.specs.declared.answer.Answer.the-variants as check
+use Rattle.check_call.specs.declared.answer.Reply.{Reply}
+use Rattle.check_call.specs.Answers.{replyOf}
+use Rattle.claim_check_call.specs.declared.answer.ClaimAnswer.{ClaimAnswer}
+use Rattle.claim_write_call.specs.declared.answer.WriteAnswer.{WriteAnswer}
+use Rattle.claim_check_call.specs.Answers as claim
+use Rattle.claim_write_call.specs.Answers.{writeReplyOf, whereWritten}
 use Rattle.truppidane.specs.declared.told.VerdictNumbers.{VerdictNumbers}
 
 -- the numbers in their order
-abbrev pub line : Reply → VerdictNumbers → ℕ → List ℕ
-line reply judged bytes =
+abbrev pub toldNumbers : Reply → VerdictNumbers → ℕ → List ℕ
+toldNumbers reply judged bytes =
     reply .number ∷ reply .origin ∷ reply .value
     ∷ judged .verdict ∷ judged .row ∷ judged .g ∷ judged .l0 ∷ judged .l1 ∷ judged .l2 ∷ judged .l3
     ∷ bytes ∷ []
@@ -34,7 +34,7 @@ ofVerdict (Possible row g l0 l1 l2 l3) = record { verdict = 2; row = row; g = g;
 abbrev pub checkVerdict : Answer → VerdictNumbers
 checkVerdict (check.Done count verdict) = ofVerdict verdict
 checkVerdict (check.Refused refusal) = noVerdict
-checkVerdict (check.Short room) = noVerdict
+checkVerdict (check.Short w) = noVerdict
 checkVerdict (check.Over budget) = noVerdict
 
 abbrev pub writeVerdict : WriteAnswer → VerdictNumbers
@@ -47,10 +47,10 @@ writeBytes = whereWritten (λ verdict bytes. bytes) 0
 -- ---- the answers
 
 abbrev pub checkNumbers : Answer → List ℕ
-checkNumbers answer = line (replyOf answer) (checkVerdict answer) 0
+checkNumbers answer = toldNumbers (replyOf answer) (checkVerdict answer) 0
 
 abbrev pub writeNumbers : WriteAnswer → List ℕ
-writeNumbers answer = line (writeReplyOf answer) (writeVerdict answer) (writeBytes answer)
+writeNumbers answer = toldNumbers (writeReplyOf answer) (writeVerdict answer) (writeBytes answer)
 
 abbrev pub claimNumbers : ClaimAnswer → List ℕ
-claimNumbers answer = line (claim.replyOf answer) noVerdict 0
+claimNumbers answer = toldNumbers (claim.claimReplyOf answer) noVerdict 0

@@ -11,12 +11,12 @@ ghost use Rattle.truppidane.specs.Told.{
   writeNumbers,
   claimNumbers,
 };
-use claim_checking::answer::ClaimAnswer;
-use claim_writing::answer::WriteAnswer;
-use claim_writing::answer::write_reply_of;
-use rules::answer::Answer;
-use rules::answer::Reply;
-use rules::answer::reply_of;
+use claim_check_call::answer::ClaimAnswer;
+use claim_write_call::answer::WriteAnswer;
+use claim_write_call::answer::write_reply_of;
+use check_call::answer::Answer;
+use check_call::answer::Reply;
+use check_call::answer::reply_of;
 use verdict::search::Verdict;
 
 // How many numbers an answer takes.
@@ -88,7 +88,7 @@ fn check_verdict(answer: Answer) -> VerdictNumbers
     match answer {
         Answer::Done { count: _, verdict } => of_verdict(verdict),
         Answer::Refused { refusal: _ } => no_verdict(),
-        Answer::Short { room: _ } => no_verdict(),
+        Answer::Short { w: _ } => no_verdict(),
         Answer::Over { budget: _ } => no_verdict(),
     }
 }
@@ -104,7 +104,7 @@ fn write_verdict(answer: WriteAnswer) -> VerdictNumbers
             bytes: _,
         } => of_verdict(verdict),
         WriteAnswer::Refused { refusal: _ } => no_verdict(),
-        WriteAnswer::Short { room: _ } => no_verdict(),
+        WriteAnswer::Short { w: _ } => no_verdict(),
         WriteAnswer::Over { budget: _ } => no_verdict(),
         WriteAnswer::NoSpace { needed: _ } => no_verdict(),
     }
@@ -121,7 +121,7 @@ fn write_bytes(answer: WriteAnswer) -> usize
             bytes,
         } => bytes,
         WriteAnswer::Refused { refusal: _ } => 0,
-        WriteAnswer::Short { room: _ } => 0,
+        WriteAnswer::Short { w: _ } => 0,
         WriteAnswer::Over { budget: _ } => 0,
         WriteAnswer::NoSpace { needed: _ } => 0,
     }
@@ -170,5 +170,5 @@ pub fn write_numbers(answer: WriteAnswer) -> [usize; NUMBERS]
 pub fn claim_numbers(answer: ClaimAnswer) -> [usize; NUMBERS]
     ensures { λ r. ⌜ r ≡ claimNumbers answer ⌝ }
 {
-    numbers_of(claim_checking::answer::reply_of(answer), no_verdict(), 0)
+    numbers_of(claim_check_call::answer::claim_reply_of(answer), no_verdict(), 0)
 }

@@ -1,6 +1,5 @@
 -- What joins uses at positions with uses of the rules: a use of a set from marks, and a fact that a rule yields from marked facts. On the way
 -- from the rules, `Used` goes up from a set to the sets that it is part of; on the way back, the facts of a row stand at its places.
--- Assumes nothing.
 use mathlib.Core.Path.{_≡_, sym, _∙_}
 use mathlib.Core.Logic.{inl, inr}
 use mathlib.Core.List.{List}

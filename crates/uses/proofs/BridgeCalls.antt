@@ -1,6 +1,5 @@
 -- Rule 6: the uses at positions on a row of Q facts, those of t from pair a with frame f, are the uses of the rule. The Q fact to pair b and the
 -- P fact from b to pair c give the Q fact to c.
--- Assumes nothing.
 use mathlib.Core.Path.{subst}
 use mathlib.Core.List.{List}
 use Prim.Native.Nat.{ℕ, _+_, _*_, _/_, _%_, _<_}

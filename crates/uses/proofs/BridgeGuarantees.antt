@@ -1,6 +1,5 @@
 -- Rules 2 and 3: the uses of the G facts at positions, on a row of facts of t, are the uses of the rules. Both rules are one law, for any row
 -- of facts that begins at x: the fact of it that ends at g, l stands at the pair of g and l, and a guarantee of another thread moves it.
--- Assumes nothing.
 use mathlib.Core.Path.{_≡_, _∙_}
 use mathlib.Core.Logic.{_≢_}
 use mathlib.Core.List.{List}

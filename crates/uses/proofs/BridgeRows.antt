@@ -1,5 +1,4 @@
 -- Rules 4, 5 and 7: the uses of rows at positions, on the facts of a thread from one pair, are the uses of their rules.
--- Assumes nothing.
 use mathlib.Core.Path.{refl, sym, subst}
 use mathlib.Core.Logic.{inl, inr}
 use mathlib.Core.List.{List, List·Memᴰ}
@@ -12,7 +11,7 @@ use Rattle.model.specs.Memory.{Marked}
 use Rattle.store.specs.declared.rows.Row.{Row}
 use Rattle.store.specs.Marking.{Has}
 use Rattle.positions.specs.Plans.{planOf}
-use Rattle.store.specs.Reading.{rowOf, stepOf, pushOf, popOf, Same}
+use Rattle.store.specs.Reading.{rowOf, asStep, asPush, asPop, Same}
 use Rattle.positions.proofs.PlanIsModel.{pos-g, pos-p-row, pos-q-row}
 use Rattle.uses.specs.declared.kinds.Kind.the-variants.{Push as Pushing, Pop as Popping}
 use Rattle.uses.specs.Uses.{Uses}
@@ -57,7 +56,7 @@ module _ (T : Table) (m : List ℕ) (n : ℕ) (rows : List ℕ) (a b : ℕ) wher
       Marked T m (P (z .t) a b (z .g) (z .l))
       → Gives (StepsOf (z .t)) (P (z .t) a b (z .g′) (z .l′)) × Gives (StepsOf (z .t)) (G (z .t) (z .g) (z .g′))
 
-  pub step-used : Same stepOf rows n (T .steps) → (z : Step) → List·Memᴰ z (T .steps) → StepGives z
+  pub step-used : Same asStep rows n (T .steps) → (z : Step) → List·Memᴰ z (T .steps) → StepGives z
   step-used same =
       each same StepGives (λ i lt h.
       let r = rowOf rows i in
@@ -72,7 +71,7 @@ module _ (T : Table) (m : List ℕ) (n : ℕ) (rows : List ℕ) (a b : ℕ) wher
       Marked T m (P (z .t) a b (z .g) (z .l))
       → Gives (PushesOf (z .t)) (Q (z .t) a b (z .f) (z .g) (z .l′)) × Gives (PushesOf (z .t)) (P (z .t) (z .g) (z .l′) (z .g) (z .l′))
 
-  pub push-used : Same pushOf rows n (T .pushes) → (z : Push) → List·Memᴰ z (T .pushes) → PushGives z
+  pub push-used : Same asPush rows n (T .pushes) → (z : Push) → List·Memᴰ z (T .pushes) → PushGives z
   push-used same =
       each same PushGives (λ i lt h.
       let r = rowOf rows i in
@@ -85,7 +84,7 @@ module _ (T : Table) (m : List ℕ) (n : ℕ) (rows : List ℕ) (a b : ℕ) wher
   abbrev PopGives : Pop → Type 0
   PopGives z = Marked T m (Q (z .t) a b (z .f) (z .g) (z .l)) → Gives (PopsOf (z .t)) (P (z .t) a b (z .g) (z .l′))
 
-  pub pop-used : Same popOf rows n (T .pops) → (z : Pop) → List·Memᴰ z (T .pops) → PopGives z
+  pub pop-used : Same asPop rows n (T .pops) → (z : Pop) → List·Memᴰ z (T .pops) → PopGives z
   pop-used same =
       each same PopGives (λ i lt h.
       let r = rowOf rows i in
@@ -96,36 +95,36 @@ module _ (T : Table) (m : List ℕ) (n : ℕ) (rows : List ℕ) (a b : ℕ) wher
 
 module _ {T : Table} (sound : Sound T) {m : List ℕ} {a q x y : ℕ} (ah : a < T .G * T .L) (h : Has m x) where
   -- rule 4
-  step-one : (r : Row) → StepFits T (stepOf r) → Steps T (r .t) (r .g) (r .l) (r .u) (r .v) → StepUse (planOf T) (r .t) a r q x y → Yielded T m y
+  step-one : (r : Row) → StepFits T (asStep r) → Steps T (r .t) (r .g) (r .l) (r .u) (r .v) → StepUse (planOf T) (r .t) a r q x y → Yielded T m y
   step-one r ok row (inl u) =
       one-yields (p-stands sound (ok .t) ah (ok .g) (ok .l)) (p-stands sound (ok .t) ah (ok .g′) (ok .l′)) (λ p. step-P p row) u h
   step-one r ok row (inr u) =
       one-yields (p-stands sound (ok .t) ah (ok .g) (ok .l)) (g-stands (ok .t) (ok .g) (ok .g′)) (λ p. step-G p row) u h
 
-  pub step-yields : (t : ℕ) {n : ℕ} {rows : List ℕ} → Same stepOf rows n (T .steps) → StepUses (planOf T) t a (rowOf rows) n q x y → Yielded T m y
+  pub step-yields : (t : ℕ) {n : ℕ} {rows : List ℕ} → Same asStep rows n (T .steps) → StepUses (planOf T) t a (rowOf rows) n q x y → Yielded T m y
   step-yields t same =
       of-one same (λ (t : ℕ). StepUse (planOf T) t a) t
       (λ r row. step-one r (sound .steps .fits _ row) (record { row = row; taken = tt }))
 
   -- rule 5
-  push-one : (r : Row) → PushFits T (pushOf r) → Pushes T (r .t) (r .g) (r .l) (r .u) (r .v) → PushUse (planOf T) (r .t) a r q x y → Yielded T m y
+  push-one : (r : Row) → PushFits T (asPush r) → Pushes T (r .t) (r .g) (r .l) (r .u) (r .v) → PushUse (planOf T) (r .t) a r q x y → Yielded T m y
   push-one r ok row (inl u) =
       one-yields (p-stands sound (ok .t) ah (ok .g) (ok .l)) (q-stands sound (ok .t) ah (ok .f) (ok .g) (ok .l′)) (λ p. push-Q p row) u h
   push-one r ok row (inr u) =
       one-yields (p-stands sound (ok .t) ah (ok .g) (ok .l))
       (record { fits = (ok .t, ok .g, ok .l′, ok .g, ok .l′); here = pos-p-row T (r .t) (r .g) (r .u) (r .g) (r .u) }) (λ p. push-P p row) u h
 
-  pub push-yields : (t : ℕ) {n : ℕ} {rows : List ℕ} → Same pushOf rows n (T .pushes) → RowUses Pushing (planOf T) t a rows n q x y → Yielded T m y
+  pub push-yields : (t : ℕ) {n : ℕ} {rows : List ℕ} → Same asPush rows n (T .pushes) → RowUses Pushing (planOf T) t a rows n q x y → Yielded T m y
   push-yields t same =
       of-one same (λ (t : ℕ). PushUse (planOf T) t a) t
       (λ r row. push-one r (sound .pushes .fits _ row) (record { row = row; taken = tt }))
 
   -- rule 7
-  pop-one : (r : Row) → PopFits T (popOf r) → Pops T (r .t) (r .g) (r .l) (r .u) (r .v) → PopUse (planOf T) (r .t) a r q x y → Yielded T m y
+  pop-one : (r : Row) → PopFits T (asPop r) → Pops T (r .t) (r .g) (r .l) (r .u) (r .v) → PopUse (planOf T) (r .t) a r q x y → Yielded T m y
   pop-one r ok row u =
       one-yields (q-stands sound (ok .t) ah (ok .f) (ok .g) (ok .l)) (p-stands sound (ok .t) ah (ok .g) (ok .l′)) (λ p. pop-P p row) u h
 
-  pub pop-yields : (t : ℕ) {n : ℕ} {rows : List ℕ} → Same popOf rows n (T .pops) → RowUses Popping (planOf T) t a rows n q x y → Yielded T m y
+  pub pop-yields : (t : ℕ) {n : ℕ} {rows : List ℕ} → Same asPop rows n (T .pops) → RowUses Popping (planOf T) t a rows n q x y → Yielded T m y
   pop-yields t same =
       of-one same (λ (t : ℕ). PopUse (planOf T) t a) t
       (λ r row. pop-one r (sound .pops .fits _ row) (record { row = row; taken = tt }))

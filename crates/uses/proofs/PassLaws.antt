@@ -1,7 +1,6 @@
 -- How passes over sets of uses are put together: one use, one pass after another, a loop of passes, a pass under another premise. Each law has
 -- two sides. A pass that looks keeps the smallest of what lacks in its parts. A pass that puts goes on with the trace of puts; if it put
 -- nothing at all, no part of it did, so the memory is the same throughout and nothing lacks in any part.
--- Assumes nothing.
 use mathlib.Core.Path.{_≡_, refl, sym, subst, _∙_}
 use mathlib.Core.Bool.{Bool, true, false}
 use mathlib.Core.Logic.{_⊎_, inl, inr}

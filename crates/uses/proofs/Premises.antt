@@ -1,5 +1,4 @@
 -- Each use on a row of facts has a premise in it. So a row of facts with no mark gives nothing.
--- Assumes nothing.
 use mathlib.Core.Path.{_≡_, refl, subst}
 use mathlib.Core.Logic.{inl, inr}
 use mathlib.Core.List.{List}

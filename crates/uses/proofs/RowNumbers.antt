@@ -1,5 +1,4 @@
 -- Row i is that of thread i / k and pair i % k, and the row of t and a is row t * k + a.
--- Assumes nothing.
 use mathlib.Core.Path.{_≡_, ap, sym, subst}
 use Prim.Native.Nat.{ℕ, _+_, _*_, _/_, _%_, _<_, _≤_}
 use native.Mathlib.Nat.{mod-lt, mul-le-mul, div-lt-iff-lt-mul, div-add-mod'}

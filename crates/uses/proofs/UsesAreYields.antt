@@ -1,5 +1,4 @@
 -- The uses of all rules at positions are the uses of the rules. So what lacks at positions is what is missing by the rules.
--- Assumes nothing.
 use mathlib.Core.Path.{_≡_, sym, ap, subst, _∙_}
 use mathlib.Core.Logic.{inl, inr}
 use mathlib.Core.List.{List}

@@ -1,6 +1,5 @@
 -- What an answer tells a caller. It is the only one that the contract allows; on a memory that holds a set of facts, such as the least relations
 -- or a claim, it is the verdict on that set; and its row is the smallest of an allowed error.
--- Assumes nothing.
 use mathlib.Core.Path.{_≡_, refl, sym, ap, _∙_}
 use mathlib.Core.Option.{some}
 use mathlib.Core.List.{List, [], _∷_}

@@ -1,5 +1,4 @@
 -- Lists: when a list of numbers is no larger than another, and what stands in a list at a number.
--- Assumes nothing.
 use mathlib.Core.Path.{_≡_, refl}
 use mathlib.Core.Option.{some}
 use mathlib.Core.List.{List, [], _∷_}

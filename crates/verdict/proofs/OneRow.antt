@@ -1,6 +1,5 @@
 -- One row at one shared store g. If the row is aimed at no thread there, or some thread has no store for its cell, the row allows no error at g.
 -- Else each thread's smallest store for its cell makes the smallest list that the row allows at g.
--- Assumes nothing.
 use mathlib.Core.Path.{_≡_, refl, sym, ap, _∙_}
 use mathlib.Core.Logic.{inl, inr}
 use mathlib.Core.List.{List}
@@ -27,12 +26,12 @@ use Rattle.reaching.specs.Reaching.{
   picked,
   unfit,
   fit,
-  cellAt,
+  askedCell,
 }
 use Rattle.reaching.proofs.Numbers.{picked-reaches, picked-none}
 use Rattle.reaching.proofs.CellLaws.{cell-eq, own-cell, other-cell, file-cell}
 use Rattle.verdict.proofs.Smallest.{each-least, own-fails, fails-least}
-use Rattle.verdict.proofs.OfTable.{
+use Rattle.verdict.proofs.LentIsTable.{
   EachReaches,
   some-thread,
   from-row-0,
@@ -53,7 +52,7 @@ NoneAt T m row g = (ls : List ℕ) → ¬ Allowed T m row g ls
 
 -- the stores for the cell of thread t: it reaches them at g, and the cell fits them
 abbrev pub StoreFor : Plan → ℕ → List ℕ → List ℕ → ℕ → ℕ → ℕ → ℕ → ℕ → Type 0
-StoreFor s failed rows m row g u t = Choice (Reached s m g t) (cellAt failed rows row u t)
+StoreFor s failed rows m row g u t = Choice (Reached s m g t) (askedCell failed rows row u t)
 
 -- the row is aimed at a thread, u
 pub record AimedAt (s : Plan) (failed : ℕ) (rows : List ℕ) (n : ℕ) (m : List ℕ) (row g u : ℕ) : Type 0 where
@@ -114,7 +113,7 @@ module _ {T : Table} {s : Plan} {failed : ℕ} {rows : List ℕ} {n : ℕ} (of :
       erroneous : Aimed s failed rows m row g u → Erroneous T g ls row
       erroneous (no-failed z e q) = absurd (omega (arith, ul))
       erroneous (picked k z fk p) =
-          let e = own-fails (cellAt failed rows row u) ls count all (own-cell failed rows z refl ∙ fk) (λ t. other-cell failed rows z) ul in
+          let e = own-fails (askedCell failed rows row u) ls count all (own-cell failed rows z refl ∙ fk) (λ t. other-cell failed rows z) ul in
           rw z (to-row-0 of (record { t = u; t-lt = ul; here = fk ∙ ap suc (sym e) }))
       erroneous (unfit i z c q) = absurd (omega (arith, ul))
       erroneous (fit i z c q) =
@@ -136,7 +135,7 @@ module _ {T : Table} {s : Plan} {failed : ℕ} {rows : List ℕ} {n : ℕ} (of :
           go (no-failed z e q) = absurd (omega (arith, ul))
           go (picked k z fk p) =
               let (v, vl, e, r) = fails-reached z fk vs a in
-              fails-least (cellAt failed rows row u) ls count all (own-cell failed rows z refl ∙ fk) (λ t. other-cell failed rows z) ul p vs
+              fails-least (askedCell failed rows row u) ls count all (own-cell failed rows z refl ∙ fk) (λ t. other-cell failed rows z) ul p vs
               (h .reached) v vl e (h .count)
           go (unfit i z c q) = absurd (omega (arith, ul))
-          go (fit i z c q) = each-least (cellAt failed rows row u) ls count all vs (h .count) (file-stores u z vs a)
+          go (fit i z c q) = each-least (askedCell failed rows row u) ls count all vs (h .count) (file-stores u z vs a)

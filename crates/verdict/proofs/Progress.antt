@@ -1,6 +1,5 @@
 -- How the search goes on. What lies before a row and a shared store is passed if it allows no error; so where the search ends, nothing is
 -- allowed, and where it is left, the list found is the smallest.
--- Assumes nothing.
 use mathlib.Core.Path.{_≡_, sym, subst, _∙_}
 use mathlib.Core.Logic.{by-cases}
 use mathlib.Core.List.{List}
@@ -19,10 +18,10 @@ use Rattle.positions.specs.declared.plan.Plan.{Plan}
 use Rattle.verdict.specs.declared.search.Verdict.the-variants.{Safe, Possible}
 use Rattle.files.proofs.TableLaws.{four-numbers}
 use Rattle.verdict.specs.ErrorRows.{ErrorsOf, Judged}
-use Rattle.reaching.specs.Reaching.{Reached, Choice, Least, cellAt}
+use Rattle.reaching.specs.Reaching.{Reached, Choice, Least, askedCell}
 use Rattle.verdict.proofs.Lists.{≼-cons}
 use Rattle.reaching.proofs.Numbers.{least-first, least-none}
-use Rattle.verdict.proofs.OfTable.{threads, row-le, allows-reached}
+use Rattle.verdict.proofs.LentIsTable.{threads, row-le, allows-reached}
 use Rattle.verdict.proofs.OneRow.{Allowed, NoneAt, StoreFor, AimedAt, stuck-none, smallest-allowed, smallest-least}
 
 -- ---- what is passed
@@ -84,7 +83,7 @@ pub record Choosing (s : Plan) (failed : ℕ) (rows : List ℕ) (n : ℕ) (m : L
 module _ {s : Plan} {failed : ℕ} {rows : List ℕ} {n : ℕ} {m : List ℕ} {row u g : ℕ} {ls : List ℕ} {t : ℕ}
     (c : Choosing s failed rows n m row u g ls t) where
   -- d is the cell of thread t, and l the smallest store for it
-  module _ (tl : t < s .n) {d l : ℕ} (cell : d ≡ cellAt failed rows row u t) (least : Least (Choice (Reached s m g t) d) (s .l) l) where
+  module _ (tl : t < s .n) {d l : ℕ} (cell : d ≡ askedCell failed rows row u t) (least : Least (Choice (Reached s m g t) d) (s .l) l) where
     pub choosing-next : t < 4 → ¬ (l ≡ s .l) → Choosing s failed rows n m row u g (set ls t l) (t + 1)
     choosing-next t4 ne =
         record {

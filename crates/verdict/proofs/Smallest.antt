@@ -3,7 +3,6 @@
 -- which they agree. Every thread but u is in its smallest store, so let the place be u. If k is u's own smallest store, the list has none
 -- smaller there. Else k is no thread's smallest, and u is the last that reaches it. So v is not after u. It is not before u either: there the
 -- lists agree, and ours has smallest stores. So v is u, and the list has k there.
--- Assumes nothing.
 use mathlib.Core.Path.{_≡_, sym, ap, _∙_}
 use mathlib.Core.Logic.{inl}
 use mathlib.Core.List.{List}

@@ -1,6 +1,5 @@
 -- A number in decimal, by its two equations: a number below 10 is its digit, any other is the digits of its tenth and one more.
 -- The definition counts down how many digits there may be; with enough of them the count does not matter, so it is gone from these laws.
--- Assumes nothing.
 use mathlib.Core.Path.{_≡_, sym, ap, _∙_}
 use mathlib.Core.List.{[], _∷_, _++_}
 use Prim.Native.Nat.{ℕ, zero, suc, _/_, _%_, _^_, _≤_, _<_}

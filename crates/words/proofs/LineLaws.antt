@@ -1,5 +1,4 @@
 -- A line is its word, its numbers one after the other, and the line feed. The loop that puts the numbers keeps how far it is.
--- Assumes nothing.
 use mathlib.Core.Path.{_≡_, refl, _∙_}
 use mathlib.Core.List.{List, [], _∷_, _++_, append-assoc, append-nil}
 use Prim.Native.Nat.{ℕ, _+_, _*_, _≤_, _<_}

@@ -1,6 +1,5 @@
 -- A text that is put, and then another at the place past it, are their join that is put (`put-then` of numbers). So the writers go from left to
 -- right, and each adds its own part: a byte, a word, a number.
--- Assumes nothing.
 use mathlib.Core.Path.{_≡_, refl, sym}
 use mathlib.Core.List.{List, [], _∷_, _++_}
 use Prim.Native.Nat.{ℕ, _+_, _/_, _%_, _≤_, _<_}

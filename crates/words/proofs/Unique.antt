@@ -1,6 +1,5 @@
 -- Two results that a contract on writing a text allows are equal, the answer and every byte of the lent buffer: both are the same text at the start
 -- of the same buffer.
--- Assumes nothing.
 use mathlib.Core.Path.{_≡_, sym, _∙_}
 use mathlib.Core.List.{List}
 use Prim.Native.Nat.{ℕ}

@@ -1,5 +1,4 @@
 -- `check_run::changed` is safe and ends. It counts no more bytes than it has passed.
--- Assumes nothing.
 use Prim.Native.Nat.{_≤_, _-_}
 use mathlib.Core.Logic.{⊎-elim}
 use borrow.Author.Needs.{needs}

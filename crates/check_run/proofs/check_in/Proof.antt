@@ -1,5 +1,4 @@
 -- `check_run::check_in` is safe and ends: the bytes that are lent are there.
--- Assumes nothing.
 use mathlib.Core.Path.{sym}
 use borrow.Author.Needs.{needs}
 use lib.Seq.{length-take-le}

@@ -1,5 +1,4 @@
 -- `check_run::marks_before` is safe: so many bytes are lent as stand before the position.
--- Assumes nothing.
 use native.Mathlib.Omega.{arith}
 use lib.ListN.{length-take}
 use borrow.Author.Needs.{needs}

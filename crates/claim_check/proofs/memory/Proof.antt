@@ -1,5 +1,4 @@
 -- `claim_check::memory` meets its contract: so many zeros are so long. The law on `replicate` says so without counting them.
--- Assumes nothing.
 use mathlib.Core.Path.{sym}
 use Prim.Native.Nat.{ℕ}
 use lib.ListN.{length-replicate}

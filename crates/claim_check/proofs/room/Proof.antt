@@ -1,5 +1,4 @@
 -- `claim_check::room` meets its contract: so many zeros are so long. The law on `replicate` says so without counting them.
--- Assumes nothing.
 use mathlib.Core.Path.{sym}
 use Prim.Native.Nat.{ℕ, _+_}
 use lib.ListN.{length-replicate}

@@ -1,7 +1,6 @@
 -- `claim_write::run` is safe and ends: the bytes of a claim that is written stand within the space.
--- Assumes nothing.
 use borrow.Author.Needs.{needs}
-use Rattle.claim_writing.proofs.WrittenLaws.{written-within}
+use Rattle.claim_write_call.proofs.WrittenLaws.{written-within}
 use Rattle.claim_write.proofs.run.Statement.{statement}
 use Rattle.claim_write.proofs.run.Tie as tie
 

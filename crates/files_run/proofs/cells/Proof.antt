@@ -1,5 +1,4 @@
 -- `files_run::cells` is safe and ends. It goes through the cells.
--- Assumes nothing.
 use Prim.Native.Nat.{_-_}
 use lib.ListN.{length}
 use borrow.Author.Needs.{needs}

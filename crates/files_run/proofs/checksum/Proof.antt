@@ -1,5 +1,4 @@
 -- `files_run::checksum` is safe and ends. It goes through the bytes of the memories.
--- Assumes nothing.
 use Prim.Native.Nat.{_-_}
 use borrow.Author.Needs.{needs}
 use Rattle.files_run.proofs.checksum.Statement.{statement}

@@ -1,5 +1,4 @@
 -- `files_run::find` meets its contract. It stays between `from` and the end.
--- Assumes nothing.
 use Prim.Native.Nat.{_≤_, _-_}
 use lib.ListN.{length}
 use borrow.Author.Needs.{needs}

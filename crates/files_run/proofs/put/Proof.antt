@@ -1,5 +1,4 @@
 -- `files_run::put` is safe and ends. It looks at each byte of the text but the first, and at the one before it.
--- Assumes nothing.
 use Prim.Native.Nat.{_≤_, _-_}
 use lib.ListN.{length}
 use borrow.Author.Needs.{needs}

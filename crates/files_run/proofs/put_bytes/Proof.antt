@@ -1,5 +1,4 @@
 -- `files_run::put_bytes` is safe and ends. It goes through the bytes.
--- Assumes nothing.
 use Prim.Native.Nat.{_-_}
 use lib.ListN.{length}
 use borrow.Author.Needs.{needs}

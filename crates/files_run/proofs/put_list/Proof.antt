@@ -1,5 +1,4 @@
 -- `files_run::put_list` is safe and ends. It goes through the rows.
--- Assumes nothing.
 use Prim.Native.Nat.{_-_}
 use borrow.Author.Needs.{needs}
 use Rattle.files_run.proofs.put_list.Statement.{statement}

@@ -1,5 +1,4 @@
 -- `files_run::run_written` is safe and ends. Each line begins past the one before.
--- Assumes nothing.
 use Prim.Native.Nat.{_-_}
 use lib.ListN.{length}
 use borrow.Author.Needs.{needs}

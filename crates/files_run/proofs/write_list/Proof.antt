@@ -1,5 +1,4 @@
 -- `files_run::write_list` is safe and ends. Three rows have room in the memory.
--- Assumes nothing.
 use Prim.Native.Nat.{_-_}
 use borrow.Author.Needs.{needs}
 use Rattle.files_run.proofs.write_list.Statement.{statement}

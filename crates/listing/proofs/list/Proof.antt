@@ -1,5 +1,4 @@
 -- `listing::list` is safe and ends: each line stands further on in the memory, and `used` bytes are on the page.
--- Assumes nothing.
 use mathlib.Core.Path.{_≡_, sym}
 use Prim.Native.Nat.{_-_, _≤_}
 use native.Mathlib.Omega.{arith}

@@ -1,5 +1,4 @@
 -- `listing::put` is safe and ends: a byte for each turn of the loop, and each has room.
--- Assumes nothing.
 use mathlib.Core.Path.{_≡_}
 use Prim.Native.Nat.{_-_, _≤_}
 use borrow.Author.Needs.{needs}

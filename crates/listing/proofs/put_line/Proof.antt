@@ -1,5 +1,4 @@
 -- `listing::put_line` is safe and ends: the bytes that are printed are on the page.
--- Assumes nothing.
 use mathlib.Core.Path.{sym}
 use borrow.Author.Needs.{needs}
 use lib.Seq.{length-take-le}

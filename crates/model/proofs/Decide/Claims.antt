@@ -1,6 +1,5 @@
 -- What is found of a claim that lists its facts: accepted, a start fact that is lacking, a missing position, or an allowed error; each
 -- found by trying the threads, positions or rows from 0 on.
--- Assumes nothing.
 use mathlib.Core.Logic.{Dec·and, Dec·not}
 use mathlib.Core.List.{List, map, List·Memᴰ}
 use Prim.Native.Nat.{ℕ, _<_}

@@ -17,7 +17,7 @@ use Rattle.model.proofs.Monotone.{yields-mono}
 use Rattle.model.proofs.Least.{derives-closed, least}
 use Rattle.model.proofs.InRange.{derives-fits}
 use Rattle.model.proofs.Claims.{none-missing-closed}
-use Rattle.model.proofs.Decide.{member?, upTo, upTo-lt, lt-upTo, first-below, Listed}
+use Rattle.model.proofs.Decide.{member?, upTo, upTo-lt, lt-upTo, first-below, Enumerates}
 use Rattle.model.proofs.Decide.Yields.{fact?}
 use Rattle.model.proofs.Decide.Claims.{missing?}
 
@@ -74,14 +74,14 @@ module _ {T : Table} (sound : Sound T) where
         here e = inl (subst (λ q. List·Memᴰ (factAt T q) (factAt T p ∷ fs)) e mem-first)
 
     -- if none is missing, the list has every derivable fact
-    full : ((p : ℕ) → p < W T → ¬ Missing T (λ f. List·Memᴰ f fs) p) → Listed (Derives T) fs
+    full : ((p : ℕ) → p < W T → ¬ Missing T (λ f. List·Memᴰ f fs) p) → Enumerates (Derives T) fs
     full none f = (least (record { starts = g .starts; closed = closed }) f, g .derives f)
       where
         closed : Closed T (λ f. List·Memᴰ f fs)
         closed = none-missing-closed sound (λ f m. derives-fits sound f (g .derives f m)) (λ f i. member? fact? f fs) none
 
   abbrev Facts : Type 0
-  Facts = (fs : List Fact) × Listed (Derives T) fs
+  Facts = (fs : List Fact) × Enumerates (Derives T) fs
 
   -- on with one position less, or the list is full
   go-on : {fs : List Fact} {left : List ℕ} → Grown fs left
@@ -97,7 +97,7 @@ module _ {T : Table} (sound : Sound T) where
 
   -- ---- the derivable facts
 
-  pub facts-listed : (fs : List Fact) × Listed (Derives T) fs
+  pub facts-listed : (fs : List Fact) × Enumerates (Derives T) fs
   facts-listed = grow (length (upTo (W T))) _ (upTo (W T)) refl begun
 
   pub derives? : (f : Fact) → Dec (Derives T f)

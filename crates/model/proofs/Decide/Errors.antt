@@ -1,7 +1,6 @@
 -- The errors that a list of facts allows, as a list of witnesses: at each shared store where thread 0 stands, each choice of a local store
 -- that each thread reaches there, and each row by which the two are erroneous. The list is exact, so it decides whether the facts are safe,
 -- whether they allow an error by a row, and what the verdict on them is.
--- Assumes nothing.
 use mathlib.Core.Path.{_≡_, refl, ap, subst}
 use mathlib.Core.Logic.{_⊎_, inl, inr, Dec·and}
 use mathlib.Core.Option.{Option, none, some}
@@ -18,7 +17,7 @@ use Rattle.model.specs.Verdict.{_≼_, end, less, more, numbers, Smalles
 use Rattle.model.specs.Claims.{AllowsRow}
 use Rattle.model.proofs.Lists.{some-lt, mem-first, from-one, from-flatMap, to-flatMap, only, from-only, to-only}
 use Rattle.model.proofs.Order.{≼-refl, ≼-antisym, witness-by-numbers}
-use Rattle.model.proofs.Decide.{each?, some?, member?, upTo, lt-upTo, all?, any?, Listed}
+use Rattle.model.proofs.Decide.{each?, some?, member?, upTo, lt-upTo, all?, any?, Enumerates}
 
 -- ---- erroneous stores
 
@@ -81,7 +80,7 @@ module _ (fs : List Fact) where
       from-one (Reaches In t g) (record { g₁ = g₁; l₁ = l₁; fact = rw (a, b) at i }) n
   reaches-from t g (Q _ _ _ _ _ _) i l m = elim m [ ]
 
-  reaches-listed : (t g : ℕ) → Listed (Reaches In t g) (flatMap (standsIn t g) fs)
+  reaches-listed : (t g : ℕ) → Enumerates (Reaches In t g) (flatMap (standsIn t g) fs)
   unfolding standsIn
   reaches-listed t g l = (
     λ r. to-flatMap (standsIn t g) (r .fact) (to-only (Dec·and (ℕ-discrete t t) (ℕ-discrete g g)) (refl, refl) mem-first),
@@ -171,7 +170,7 @@ module _ (T : Table) (fs : List Fact) where
       (to-flatMap (byRow (w .shared) (w .locals)) (lt-upTo _ (row-lt T (a .erroneous)))
       (to-only (erroneous? T (w .shared) (w .locals) (w .row)) (a .erroneous) mem-first)))
 
-  pub allows-listed : 0 < T .n → Listed (Allows T (λ f. List·Memᴰ f fs)) witnesses
+  pub allows-listed : 0 < T .n → Enumerates (Allows T (λ f. List·Memᴰ f fs)) witnesses
   allows-listed hn w = (witnesses-complete hn w, witnesses-sound w)
 
 -- ---- the order of witnesses

@@ -1,7 +1,6 @@
 -- Whether a list of facts is exactly the least relations of a table. A list that holds the start facts and is closed has every derivable
 -- fact. Its facts are derivable if passes through it find them all: a fact is found if it is a start fact or follows from facts that are found
 -- already, and what it yields is worked out once. If the facts stand in position order, the length of the list is the number of facts.
--- Assumes nothing.
 use mathlib.Core.Path.{_≡_, sym, ap, subst, subst⁻¹, _∙_}
 use mathlib.Core.Logic.{Dec·and}
 use mathlib.Core.Option.{Option}
@@ -20,7 +19,7 @@ use Rattle.model.proofs.Monotone.{yields-mono, verdict-cast}
 use Rattle.model.proofs.Least.{derives-closed, least}
 use Rattle.model.proofs.Positions.{stands}
 use Rattle.model.proofs.Counting.{Between, listed-counts}
-use Rattle.model.proofs.Decide.{each?, member?, upTo, upTo-lt, Listed}
+use Rattle.model.proofs.Decide.{each?, member?, upTo, upTo-lt, Enumerates}
 use Rattle.model.proofs.Decide.Yields.{fact?, further, further-yields, closed?}
 
 -- ---- the facts that are found
@@ -120,7 +119,7 @@ exact? T k fs =
 
 module _ {T : Table} {k : ℕ} {fs : List Fact} (e : Exact T k fs) where
   -- the derivable facts are those of the list
-  pub exact-listed : Listed (Derives T) fs
+  pub exact-listed : Enumerates (Derives T) fs
   exact-listed f = (least (e .closed) f, λ m. found-derives T fs k f (e .whole f m))
 
   -- and their number is its length

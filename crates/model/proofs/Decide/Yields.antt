@@ -1,6 +1,5 @@
 -- What one use of a rule yields from a list of facts, as a list: each fact is tried with each row and with each fact. The list is exact, so
 -- it decides whether the facts of a list hold the start facts and are closed.
--- Assumes nothing.
 use mathlib.Core.Path.{_≡_, refl, sym}
 use mathlib.Core.Logic.{_≢_, Dec·and, Dec·not}
 use mathlib.Core.List.{List, [], _∷_, _++_, flatMap, List·Memᴰ, List·Memᴰ·tail, Memᴰ·cast, Memᴰ·append-left, Memᴰ·append-right}
@@ -42,7 +41,7 @@ use Rattle.model.proofs.Lists.{
   from-gather,
   to-gather,
 }
-use Rattle.model.proofs.Decide.{each?, member?, all?, Listed}
+use Rattle.model.proofs.Decide.{each?, member?, all?, Enumerates}
 
 -- whether two facts are one
 unfoldable pub fact? : Discrete Fact
@@ -194,7 +193,7 @@ module _ (T : Table) (fs : List Fact) where
   consequences-complete f (call i j) = by-facts i j (to-only _ (refl, (refl, refl)) mem-first)
   consequences-complete f (pop-P i r) = by-rows i (to-gather _ _ (r .row) (refl, ((refl, (refl, refl)), r .taken)) mem-first)
 
-  pub yields-listed : Listed Yielded (consequences T fs)
+  pub yields-listed : Enumerates Yielded (consequences T fs)
   yields-listed f = (consequences-complete f, consequences-sound f)
 
   -- ---- the decisions

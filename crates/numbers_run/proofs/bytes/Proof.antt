@@ -1,5 +1,4 @@
 -- `numbers_run::bytes` is safe and ends. The loop's invariant: `i-end` is the length. The measure is what is left of it.
--- Assumes nothing.
 use Prim.Native.Nat.{_-_}
 use mathlib.Core.Path.{_≡_}
 use native.Mathlib.Omega.{arith}

@@ -1,5 +1,4 @@
 -- `numbers_run::read_all` is safe and ends: each turn goes on past some bytes.
--- Assumes nothing.
 use Prim.Native.Nat.{_-_}
 use lib.ListN.{length}
 use borrow.Author.Needs.{needs}

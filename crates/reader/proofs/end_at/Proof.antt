@@ -1,7 +1,6 @@
 -- `reader::end_at` meets its contract: a walk of its MIR, by hand. A reader is made of the bytes and the place, and is asked what is left and where
 -- it stands; `ended` answers of the two numbers. All that the proof knows of the four functions is that each meets its contract.
 -- What the reader owns can be had twice, so it is asked twice. In a local MIR erases the lifetime of the reader's type.
--- Assumes nothing.
 use mathlib.Core.Path.{_≡_, refl, ap, _∙_}
 use Prim.Native.Nat.{ℕ, _<_, _^_}
 use mathlib.Core.List.{List, [], _∷_}

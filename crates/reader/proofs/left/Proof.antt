@@ -1,7 +1,6 @@
 -- `reader::left` meets its contract: a walk of its MIR, by hand. The reader is taken apart, and `left_from` is called on the bytes and the place.
 -- All that the proof knows of `left_from` is that it meets its contract. What the reader owns can be had twice: one copy goes to the callee, and
 -- one is kept for the exit.
--- Assumes nothing.
 use mathlib.Core.Path.{_≡_, refl}
 use Prim.Native.Nat.{ℕ}
 use mathlib.Core.List.{[], _∷_}

@@ -2,7 +2,6 @@
 -- called on the bytes and the place, and `past` on the place and what was read; the new place is stored, and the borrow is closed at the reader that
 -- stands there. All that the proof knows of the two functions is that each meets its contract.
 -- What the reader owns can be had twice: one copy goes to `number`, and of the other, with the new place, the reader at exit is made.
--- Assumes nothing.
 use mathlib.Core.Path.{_≡_, refl, ap, _∙_}
 use Prim.Native.Nat.{ℕ}
 use mathlib.Core.List.{List, [], _∷_}

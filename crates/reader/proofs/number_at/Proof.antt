@@ -1,7 +1,6 @@
 -- `reader::number_at` meets its contract: a walk of its MIR, by hand. A reader is made of the bytes and the place in a local, and is lent to `next`
 -- for a lifetime that the walk makes; what `next` answers is the answer. All that the proof knows of `reader_at` and of `next` is that each meets its
 -- contract. Where the reader stands afterwards is not asked: it ends with the function.
--- Assumes nothing.
 use mathlib.Core.Path.{refl}
 use Prim.Native.Nat.{ℕ, _<_, _^_}
 use mathlib.Core.List.{List, [], _∷_}

@@ -1,6 +1,5 @@
 -- `reader::reader_at` meets its contract: a walk of its MIR, by hand. A reader is made of the bytes and the place that were passed.
 -- What these own can be had twice: once as what the parameters own at exit, and once as what the reader owns.
--- Assumes nothing.
 use mathlib.Core.Path.{refl}
 use Prim.Native.Nat.{ℕ, _<_, _^_}
 use mathlib.Core.List.{List, [], _∷_}

@@ -1,5 +1,4 @@
 -- The rule, if the row is the thread's.
--- Assumes nothing.
 use borrow.Author.Needs.{needs}
 use Rattle.uses.proofs.PassLaws.{swept-under, swept-never}
 use Rattle.steps.proofs.step_row.Statement.{statement}

@@ -1,5 +1,4 @@
 -- The walker, derived by hand: it has a slice of structs, of which the checker derives none itself. After i turns the first i rows are done.
--- Assumes nothing.
 use Prim.Native.Nat.{ℕ, _≤_, _<_, _-_, _+_, _*_}
 use mathlib.Core.Bool.{Bool}
 use mathlib.Core.Path.{_≡_, refl}
@@ -30,7 +29,7 @@ use Rattle.steps.proofs.Derivations.{mut, unsigned, lt, mul, add, offse
 use Rattle.steps.proofs.Derivations.{Triple, ltb-true, ltb-false, at-mul, ptrVal, Cx, Life, sBool, sPtr, lease, dead, getRow, get, set}
 use Rattle.steps.proofs.Derivations.{sc-here, sslice, whole, Mo, oAt, oFld, oInt, After, mslice, msleft, setVals, asMut, msptr, mslice-owed}
 use Rattle.steps.proofs.Derivations.{reads-owed-len, bySize, lenV, reads-sslice-len, reads-sslice-ptr, vAt, bAt, fix-len, plainOf, Callee}
-use Rattle.steps.proofs.Derivations.{World, u64, n64, v64, bytes, lent, rowOf, tyOf, it, _&_, dAt, mAt, At, gone, over, over-data, like, read}
+use Rattle.steps.proofs.Derivations.{World, u64, n64, v64, bytes, lent, structOf, tyOf, it, _&_, dAt, mAt, At, gone, over, over-data, like, read}
 use Rattle.steps.proofs.Derivations.{mut-arg, copied, _⨾_, _▸_, after, falls, skips, leaves, returns, blocks, loops, branches, sets, computes}
 use Rattle.steps.proofs.Derivations.{frees, begins, ends, forgets, lends, packs, returned, calls, reads-element, copies, Function, entry}
 use Rattle.steps.proofs.Derivations.{Over, inside, Derived, Left, meets, sliceTy}
@@ -42,7 +41,7 @@ abbrev mem-ref : Ty
 mem-ref = tyRef (named 1) mut (tyInt w8)
 
 abbrev R : RattleType
-R = rowOf Rows
+R = structOf Rows
 
 -- the locals past the parameters: sofar, i, r, and what stands for a moment
 abbrev walk : Function
@@ -78,10 +77,10 @@ module _ {rows : List stored.Row} {s : Plan} {t a : ℕ} {m₀ : List ℕ} {put 
 
     -- a turn
     module _ (here : i < length rows) where
-      at-fits : Room (rowOf Rows) (length rows) → Fits w64 (i * 5)
+      at-fits : Room (structOf Rows) (length rows) → Fits w64 (i * 5)
       at-fits big = omega (arith, big)
 
-      next-fits : Room (rowOf Rows) (length rows) → Fits w64 (i + 1)
+      next-fits : Room (structOf Rows) (length rows) → Fits w64 (i + 1)
       next-fits big = omega (arith, big)
 
       less : length rows - (i + 1) < length rows - i
@@ -111,7 +110,7 @@ module _ {M : Type 1} (𝓤 : URA M) (H : Heap 𝓤) (A : Atoms 𝓤) (W : Given
 
     -- the context at the head of a turn: that at the entry, with sofar and i
     abbrev Hd : Cx
-    Hd = After (After (entry walk κs qs) 8 (whole (rowOf Passes))) 9 (sc-here n64)
+    Hd = After (After (entry walk κs qs) 8 (whole (structOf Passes))) 9 (sc-here n64)
 
     -- what the local at k holds there
     abbrev held : (k : ℕ) (u : Mo Hd) → getRow k (Hd .locals) .1 .Mod
@@ -121,7 +120,7 @@ module _ {M : Type 1} (𝓤 : URA M) (H : Heap 𝓤) (A : Atoms 𝓤) (W : Given
     abbrev put : List ℕ × Pass × ℕ → Mo Hd → Mo Hd
     put vs u =
         set 9 (9, sc-here n64) (vs .2) (Hd .locals)
-        (set 8 (8, whole (rowOf Passes)) (vs .1) (Hd .locals)
+        (set 8 (8, whole (structOf Passes)) (vs .1) (Hd .locals)
         (set 5 (5, mslice bytes mem-ref 1) (setVals (vs .0) (held 5 u)) (Hd .locals) u))
 
     abbrev Holds : Mo Hd → List ℕ × Pass × ℕ → Type 0

@@ -1,5 +1,4 @@
 -- `training::file` meets its contract: the constant passes the test of the rule, which antt computes once over all 576 entries.
--- Assumes nothing.
 use mathlib.Core.Path.{refl}
 use Rattle.training.specs.Training.{training}
 use Rattle.training.proofs.TrainingRule.{byRule, byRule-same}

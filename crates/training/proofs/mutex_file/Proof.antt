@@ -1,5 +1,4 @@
 -- `training::mutex_file` meets its contract: the constant passes the test of the rule, as the training table's does.
--- Assumes nothing.
 use mathlib.Core.Path.{refl}
 use Rattle.training.specs.Training.{mutex}
 use Rattle.training.proofs.TrainingRule.{byRule, byRule-same}

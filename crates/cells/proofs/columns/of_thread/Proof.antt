@@ -1,5 +1,4 @@
 -- `cells::columns::of_thread` meets its contract: its test is the one of `ofThread`.
--- Assumes nothing.
 use borrow.Author.Tests.{lt-ltb, le-ltb}
 use Rattle.cells.proofs.columns.of_thread.Statement.{statement}
 use Rattle.cells.proofs.columns.of_thread.Tie as tie

@@ -1,5 +1,4 @@
 -- `cells::row::row_after` meets its contract: after a part that was read it is the row at the place past it, and else the part's refusal.
--- Assumes nothing.
 use borrow.Author.Needs.{needs}
 use Rattle.cells.proofs.row.row_after.Statement.{statement}
 use Rattle.cells.proofs.row.row_after.Tie as tie

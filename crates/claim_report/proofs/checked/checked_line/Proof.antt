@@ -1,13 +1,12 @@
 -- `claim_report::checked::checked_line` meets its contract: the claim is accepted if the answer's number is 0.
--- Assumes nothing.
 use borrow.Author.Needs.{needs}
-use Rattle.claim_checking.specs.Answers.{replyOf}
+use Rattle.claim_check_call.specs.Answers.{claimReplyOf}
 use Rattle.claim_report.proofs.ClaimLineLaws.{reply-accepted, reply-refused}
 use Rattle.claim_report.proofs.checked.checked_line.Statement.{statement}
 use Rattle.claim_report.proofs.checked.checked_line.Tie as tie
 
-reply-of-requires : tie.Need-reply-of-requires
-reply-of-requires c κs = search needs
+claim-reply-of-requires : tie.Need-claim-reply-of-requires
+claim-reply-of-requires c κs = search needs
 
 cast-number : tie.Need-cast-number
 cast-number c = search needs
@@ -21,7 +20,7 @@ accepted-line-requires c κs = search needs
 returns : tie.Need-returns
 returns c =
     let told = c .before .before .before .before .before in
-    reply-accepted (replyOf (told .before .args .answer)) (told .reply-of .ensures) (c .before .before .if1 .taken) (c .accepted-line .ensures)
+    reply-accepted (claimReplyOf (told .before .args .answer)) (told .claim-reply-of .ensures) (c .before .before .if1 .taken) (c .accepted-line .ensures)
 
 claim-refused-line-requires : tie.Need-claim-refused-line-requires
 claim-refused-line-requires c κs = search needs
@@ -29,13 +28,13 @@ claim-refused-line-requires c κs = search needs
 returns-2 : tie.Need-returns-2
 returns-2 c =
     let told = c .before .before .before .before .before in
-    reply-refused (replyOf (told .before .args .answer)) (told .reply-of .ensures) (c .before .before .if1 .left) (c .claim-refused-line .ensures)
+    reply-refused (claimReplyOf (told .before .args .answer)) (told .claim-reply-of .ensures) (c .before .before .if1 .left) (c .claim-refused-line .ensures)
 
 pub checked-line-spec : {M : Type 1} → statement M
 checked-line-spec =
     tie.close
     (tie.spec
-    reply-of-requires
+    claim-reply-of-requires
     cast-number
     cast-origin
     accepted-line-requires

@@ -1,5 +1,4 @@
 -- `claim_report::written::bytes_line` meets its contract: the bytes of a claim that is written, and no byte for any other answer.
--- Assumes nothing.
 use borrow.Author.Needs.{needs}
 use Rattle.claim_report.proofs.written.bytes_line.Statement.{statement}
 use Rattle.claim_report.proofs.written.bytes_line.Tie as tie

@@ -1,8 +1,7 @@
 -- `claim_report::written::first_line` meets its contract: a claim is written if the answer's number is 0.
--- Assumes nothing.
 use borrow.Author.Needs.{needs}
 use Rattle.report.proofs.AnswerLaws.{reply-done, reply-refused}
-use Rattle.claim_writing.specs.Answers.{writeReplyOf}
+use Rattle.claim_write_call.specs.Answers.{writeReplyOf}
 use Rattle.claim_report.proofs.written.first_line.Statement.{statement}
 use Rattle.claim_report.proofs.written.first_line.Tie as tie
 

@@ -1,5 +1,4 @@
 -- `claim_report::written::verdict_line` meets its contract: the verdict of a claim that is written, and no byte for any other answer.
--- Assumes nothing.
 use borrow.Author.Needs.{needs}
 use Rattle.claim_report.proofs.written.verdict_line.Statement.{statement}
 use Rattle.claim_report.proofs.written.verdict_line.Tie as tie

@@ -1,5 +1,4 @@
 -- If the row of Q facts has no mark, nothing is done; else rule 6 and then rule 3.
--- Assumes nothing.
 use mathlib.Core.Path.{_≡_, ap, subst}
 use Prim.Native.Nat.{_+_, _*_, _≤_}
 use native.Mathlib.Omega.{arith}

@@ -1,5 +1,4 @@
 -- If the row has no mark, nothing is done; else rules 6 and 3 for each frame, and then rule 7.
--- Assumes nothing.
 use native.Mathlib.Omega.{arith}
 use borrow.Author.Needs.{needs}
 use borrow.Author.Tests.{not-true}

@@ -1,5 +1,4 @@
 -- Without frames nothing is done. Else the first i rows are done.
--- Assumes nothing.
 use mathlib.Core.Path.{_≡_}
 use Prim.Native.Nat.{_*_, _≤_, _-_}
 use native.Mathlib.Omega.{arith}

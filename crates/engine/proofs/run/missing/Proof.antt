@@ -1,5 +1,4 @@
 -- A pass over every use that looks, from w on.
--- Assumes nothing.
 use mathlib.Core.Path.{refl}
 use native.Mathlib.Omega.{arith}
 use borrow.Author.Needs.{needs}

@@ -1,5 +1,4 @@
 -- The three ends of a run: more start facts than the budget; none left; nothing lacks.
--- Assumes nothing.
 use mathlib.Core.Path.{_≡_, ap, _∙_}
 use mathlib.Core.List.{List}
 use Prim.Native.Nat.{ℕ}

@@ -1,5 +1,4 @@
 -- The start fact leads from its pair to the same pair, so it stands in the part of the P facts, and its numbers are small.
--- Assumes nothing.
 use mathlib.Core.Path.{_≡_, sym, ap, subst, _∙_}
 use Prim.Native.Nat.{ℕ, _+_, _*_, _≤_, _<_}
 use native.Mathlib.Omega.{arith}

@@ -1,6 +1,5 @@
 -- Rules 2, 4 and 5 were gone over on every row in this round. If it put many marks, another begins. Else the Q facts are gone over, and so
 -- every use was: if nothing was put, nothing lacks; if none is left, nothing is claimed; else another round begins.
--- Assumes nothing.
 use native.Mathlib.Omega.{arith}
 use borrow.Author.Needs.{needs}
 use Rattle.store.proofs.MarkLaws.{is-true}

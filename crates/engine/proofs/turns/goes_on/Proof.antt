@@ -1,5 +1,4 @@
 -- The rows are at most 1,024, so their number fits.
--- Assumes nothing.
 use native.Mathlib.Omega.{arith}
 use borrow.Author.Needs.{needs}
 use Rattle.uses.proofs.RowNumbers.{rows-small}

@@ -1,5 +1,4 @@
 -- No row from i up to this one has a mark.
--- Assumes nothing.
 use mathlib.Core.Path.{subst}
 use Prim.Native.Nat.{_*_, _-_, _<_, _≤_}
 use native.Mathlib.Omega.{arith}

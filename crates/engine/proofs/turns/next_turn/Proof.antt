@@ -1,6 +1,5 @@
 -- The row was gone over by rules 4, 5 and 2. If none is left, the work ends; if the row gave something, it has its turn again; else the next row
 -- with a mark has, and if there is none the round ends.
--- Assumes nothing.
 use native.Mathlib.Omega.{arith}
 use borrow.Author.Needs.{needs}
 use Rattle.uses.proofs.PassLaws.{swept-room, and-then}

@@ -1,5 +1,4 @@
 -- Rules 5 and 2, one after the other.
--- Assumes nothing.
 use native.Mathlib.Omega.{arith}
 use borrow.Author.Needs.{needs}
 use Rattle.positions.proofs.Places.{p-row, parts}

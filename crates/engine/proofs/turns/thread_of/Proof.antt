@@ -1,5 +1,4 @@
 -- The thread of a row that there is.
--- Assumes nothing.
 use mathlib.Core.Path.{refl}
 use native.Mathlib.Omega.{arith}
 use Rattle.uses.proofs.RowNumbers.{k-pos, row-thread}

@@ -1,6 +1,5 @@
 -- The work, derived by hand: it owns the list of step rows, and lends the first n of them to rule 4's walker in each turn. At the head of a turn
 -- `Turning` holds, which the contracts of the functions that it calls hand on; after the last turn it is what the work comes to.
--- Assumes nothing.
 use Prim.Native.Nat.{ℕ, _≤_, _<_, _/_, _%_}
 use mathlib.Core.Bool.{Bool, true, false}
 use mathlib.Core.Path.{_≡_, refl, ap, sym, subst, _∙_}
@@ -14,7 +13,7 @@ use Rattle.store.specs.declared.rows.RowCounts.{RowCounts}
 use Rattle.store.specs.declared.rows.Row as stored
 use Rattle.store.specs.Marking.{room}
 use Rattle.positions.specs.Plans.{Planned}
-use Rattle.store.specs.Reading.{nth, Listed, rowOf as rowAt}
+use Rattle.store.specs.Reading.{nth, Unpacked, rowOf as rowAt}
 use Rattle.uses.specs.declared.lines.Pass.{Pass}
 use Rattle.uses.specs.Ranges.{EachIn, RowsIn}
 use Rattle.uses.specs.Passing.{Swept}
@@ -66,7 +65,7 @@ use Rattle.steps.proofs.Derivations.{URA, Lfts, Shares, tablesOf, givenOf, Ty, 
 use Rattle.steps.proofs.Derivations.{valueLocal, memorySlot, vint, Heap, Tables, WpFn, Atoms, Given, RattleType, sliceTy, Triple, ltb-true, ltb-false}
 use Rattle.steps.proofs.Derivations.{Cx, Life, sBool, lease, dead, getRow, get, set, sc-here, whole, Mo, oAt, oFld, After, mslice, msleft, setVals}
 use Rattle.steps.proofs.Derivations.{asMut, asShr, ssptr, msptr, mslice-owed, reads-owed-len, lenV, room-sslice, fieldV, reads-field, vAt, bAt}
-use Rattle.steps.proofs.Derivations.{fix-len, plainOf, Callee, Over, World, u64, n64, v64, bytes, lent, Data, rowOf, tyOf, tyArrayOf, arrayHere, dAt}
+use Rattle.steps.proofs.Derivations.{fix-len, plainOf, Callee, Over, World, u64, n64, v64, bytes, lent, Data, structOf, tyOf, tyArrayOf, arrayHere, dAt}
 use Rattle.steps.proofs.Derivations.{sAt, mAt, At, gone, over, over-data, over-array, like, read, slice-arg, mut-arg, copied, copied-array, _⨾_, _▸_}
 use Rattle.steps.proofs.Derivations.{_◂_, after, from, falls, skips, leaves, returns, blocks, loops, branches, sets, frees, begins, ends, forgets}
 use Rattle.steps.proofs.Derivations.{it, _&_, arr-shrP, lends, packs, returned, shares, unshares, calls, copies-array, Function, entry, inside}
@@ -81,7 +80,7 @@ abbrev Turns : Data
 Turns = record { type = turn-type.the-type; laws = turn-laws.the-laws; copies = turn-laws.the-copy; plain = turn-laws.the-plain }
 
 abbrev R : RattleType
-R = rowOf Rows
+R = structOf Rows
 
 abbrev array : Ty
 array = tyArrayOf Rows 1024
@@ -145,7 +144,7 @@ module _ {s : Plan} {n : RowCounts} {st pu po : List ℕ} {put : Bool} {b : Pass
 
     -- a turn: t and a are its thread and its pair, and the walker is lent the first n of the rows
     module _ (ready : Ready s n st pu po × (s .w ≤ room m₀)) {t a : ℕ} (thread : (t ≡ turn .row / s .k) × (t < s .n))
-        (pair : (a ≡ turn .row % s .k) × (a < s .k)) {rows : List stored.Row} (listed : Listed st (n .steps) rows)
+        (pair : (a ≡ turn .row % s .k) × (a < s .k)) {rows : List stored.Row} (listed : Unpacked st (n .steps) rows)
         (long : n .steps ≤ length rows) where
       abbrev taken : List stored.Row
       taken = take (n .steps) rows
@@ -187,7 +186,7 @@ module _ {M : Type 1} (𝓤 : URA M) (H : Heap 𝓤) (A : Atoms 𝓤) (W : Given
 
     -- the context at the head of a turn: that at the entry, with n, rows and turn
     abbrev Hd : Cx
-    Hd = After (After (After (entry work κs qs) 9 (sc-here n64)) 10 (arrayHere Rows 1024)) 11 (whole (rowOf Turns))
+    Hd = After (After (After (entry work κs qs) 9 (sc-here n64)) 10 (arrayHere Rows 1024)) 11 (whole (structOf Turns))
 
     -- what the local at k holds there
     abbrev held : (k : ℕ) (u : Mo Hd) → getRow k (Hd .locals) .1 .Mod
@@ -196,7 +195,7 @@ module _ {M : Type 1} (𝓤 : URA M) (H : Heap 𝓤) (A : Atoms 𝓤) (W : Given
     -- a turn may change turn and what `mem` holds
     abbrev put : Turn × List ℕ → Mo Hd → Mo Hd
     put vs u =
-        set 11 (11, whole (rowOf Turns)) (vs .0) (Hd .locals)
+        set 11 (11, whole (structOf Turns)) (vs .0) (Hd .locals)
         (set 6 (6, mslice bytes mem-ref 3) (setVals (vs .1) (held 6 u)) (Hd .locals) u)
 
     abbrev Holds : Mo Hd → Turn × List ℕ → Type 0
@@ -231,7 +230,7 @@ module _ {M : Type 1} (𝓤 : URA M) (H : Heap 𝓤) (A : Atoms 𝓤) (W : Given
         -- let sofar = pass_of(turn);
         calls pass-of (dAt Turns 11 it & tt) 14 [] ((copied w Turns, refl) & tt) (gone w (tyOf Passes)) tt refl ⨾
         -- let stepped = walk(&rows[..n], s, t, a, mem, put, sofar);
-        from (After (After (After Hd 12 (sc-here n64)) 13 (sc-here n64)) 14 (whole (rowOf Passes))) (
+        from (After (After (After Hd 12 (sc-here n64)) 13 (sc-here n64)) 14 (whole (structOf Passes))) (
         begins 4 _ ▸
         shares R 10 9 18 1024 4 array-ref it it (like w (arrayHere Rows 1024)) (gone w array-ref) refl (λ b o. tt) (lit< tt, lit< tt) ⨾
         packs R (asShr R) 18 19 4 array-ref rows-ref it (oAt 9 u64 v64) (like w (ssptr R array-ref 4)) (gone w (sliceTy rows-ref))
@@ -251,7 +250,7 @@ module _ {M : Type 1} (𝓤 : URA M) (H : Heap 𝓤) (A : Atoms 𝓤) (W : Given
         (like w (mslice-owed bytes mem-ref 3 5 lent-mem)) refl refl ▸
         forgets 5 dead refl ▸
         -- turn = next_turn(s, counts, pushes, pops, mem, put, turn, stepped);
-        from (After Hd 15 (whole (rowOf Passes))) (
+        from (After Hd 15 (whole (structOf Passes))) (
         begins 5 _ ▸
         lends bytes 6 22 3 5 mem-ref lent lent-mem 0 it (like w (mslice bytes mem-ref 3)) (gone w lent) refl tt refl refl refl (λ b o. tt) ⨾
         packs bytes (asMut bytes) 22 23 5 lent lent it (oFld 6 (field 1 ∷ []) u64 8 (λ v. lenV (v .0))) (like w (msptr bytes lent 5))

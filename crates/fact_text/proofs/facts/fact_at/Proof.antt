@@ -1,5 +1,4 @@
 -- `fact_text::facts::fact_at` meets its contract: each kind has its part of the positions.
--- Assumes nothing.
 use mathlib.Core.Path.{sym, ap, _∙_}
 use native.Mathlib.Omega.{arith}
 use borrow.Author.Needs.{needs}

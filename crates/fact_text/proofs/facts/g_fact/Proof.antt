@@ -1,5 +1,4 @@
 -- `fact_text::facts::g_fact` meets its contract: the digits of i, taken off from the right as model's atG does. No size is 0.
--- Assumes nothing.
 use mathlib.Core.Path.{refl}
 use borrow.Author.Needs.{needs}
 use Rattle.model.specs.Positions.{atG}

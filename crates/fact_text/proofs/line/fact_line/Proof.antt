@@ -1,5 +1,4 @@
 -- `fact_text::line::fact_line` meets its contract: each kind of fact has its letter and its fields.
--- Assumes nothing.
 use borrow.Author.Needs.{needs}
 use Rattle.model.specs.Rules.{Fact}
 use Rattle.fact_text.specs.Facts.{planFact}

@@ -1,5 +1,4 @@
 -- `files::header::read_header` meets its contract: its stages, one after the other, are the definition's.
--- Assumes nothing.
 use mathlib.Core.Path.{_≡_}
 use borrow.Author.Needs.{needs}
 use denote.Ref.{now}

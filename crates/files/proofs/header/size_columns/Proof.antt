@@ -1,5 +1,4 @@
 -- `files::header::size_columns` meets its contract: the code's limits are the definition's.
--- Assumes nothing.
 use mathlib.Core.Path.{refl}
 use Rattle.files.proofs.header.size_columns.Statement.{statement}
 use Rattle.files.proofs.header.size_columns.Tie as tie

@@ -1,5 +1,4 @@
 -- `files::header::version_end` meets its contract: the version that was read tells its end, and a refused one its refusal.
--- Assumes nothing.
 use mathlib.Core.Path.{sym, _∙_}
 use borrow.Author.Needs.{needs}
 use Rattle.numbers.specs.Reading.{versionAt}

@@ -1,5 +1,4 @@
 -- `files::table::no_table` meets its contract: its header is the one of zeros.
--- Assumes nothing.
 use borrow.Author.Needs.{needs}
 use Rattle.files.proofs.table.no_table.Statement.{statement}
 use Rattle.files.proofs.table.no_table.Tie as tie

@@ -1,6 +1,5 @@
 -- The plan and the lent rows are the table's, so each of the three steps answers for it, on the memory as it was lent; and a step that finds
 -- nothing gives what the next takes for granted.
--- Assumes nothing.
 use mathlib.Core.Path.{_≡_, refl, ap, subst}
 use Prim.Native.Nat.{_≤_}
 use native.Mathlib.Omega.{arith}
@@ -12,9 +11,9 @@ use Rattle.model.specs.Rules.{Starts, ClosedWithStarts}
 use Rattle.model.specs.Memory.{Marked}
 use Rattle.model.specs.Claims.{Finds}
 use Rattle.positions.specs.Plans.{planOf}
-use Rattle.rules.specs.Lent.{Stored}
-use Rattle.rules.proofs.LentRows.{stored-rows, stored-begins, stored-errors, stored-plan, stored-sizes, stored-errors-long}
-use Rattle.rules.proofs.Outcomes.{w-by}
+use Rattle.check_call.specs.Lent.{Stored}
+use Rattle.check_call.proofs.LentRows.{stored-rows, stored-begins, stored-errors, stored-plan, stored-sizes, stored-errors-long}
+use Rattle.check_call.proofs.Outcomes.{w-by}
 use Rattle.findings.specs.Found.{Started, findingOf}
 use Rattle.findings.proofs.FoundLaws.{start-lacks, starts-marked, position-misses, closed-marked}
 use Rattle.findings.proofs.find.find.Statement.{statement}

@@ -1,5 +1,4 @@
 -- The verdict on the facts says whether an error is allowed, and which row's is the first.
--- Assumes nothing.
 use borrow.Author.Needs.{needs}
 use Rattle.findings.proofs.FoundLaws.{nothing-found, row-allows}
 use Rattle.findings.proofs.find.find_error.Statement.{statement}

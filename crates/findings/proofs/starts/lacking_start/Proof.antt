@@ -1,5 +1,4 @@
 -- Each thread before t has its start fact.
--- Assumes nothing.
 use mathlib.Core.Path.{subst}
 use Prim.Native.Nat.{ℕ, _-_, _≤_, _<_}
 use native.Mathlib.Omega.{arith}

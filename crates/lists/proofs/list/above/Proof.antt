@@ -1,5 +1,4 @@
 -- `lists::list::above` meets its contract. The loop's invariant: the two rows are equal up to cell j.
--- Assumes nothing.
 use Prim.Native.Nat.{_-_}
 use native.Mathlib.Omega.{arith}
 use borrow.Author.Needs.{needs}

@@ -1,5 +1,4 @@
 -- `lists::list::next_row` meets its contract: the row is read, and compared with the one before unless it is the first.
--- Assumes nothing.
 use mathlib.Core.Path.{_≡_, sym, _∙_}
 use borrow.Author.Needs.{needs}
 use denote.Ref.{now}

@@ -1,5 +1,4 @@
 -- `numbers::reading::groups` meets its contract: each way out is a law of `groupsAt`. The measure is `left`.
--- Assumes nothing.
 use Prim.Native.Nat.{ℕ, _<_}
 use mathlib.Core.Path.{sym, _∙_}
 use native.Mathlib.Omega.{arith}

@@ -1,5 +1,4 @@
 -- `numbers::refusals::tell` meets its contract: each arm gives what `toldOf` gives for its case.
--- Assumes nothing.
 use borrow.Author.Needs.{needs}
 use mathlib.Core.Path.{sym, ap}
 use Rattle.numbers.specs.Refusals.{toldOf}

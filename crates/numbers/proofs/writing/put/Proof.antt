@@ -1,5 +1,4 @@
 -- `numbers::writing::put` meets its contract. The loop's invariant: what is still to be written gives the whole number. The measure is `rest`.
--- Assumes nothing.
 use native.Mathlib.Omega.{arith}
 use lib.ListN.{length-set}
 use Rattle.numbers.proofs.WritingLaws.{Writing, write-start, write-more, write-last, write-room}

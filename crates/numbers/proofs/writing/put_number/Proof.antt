@@ -1,5 +1,4 @@
 -- `numbers::writing::put_number` meets its contract: each way out is a law of what is left in the slice.
--- Assumes nothing.
 use borrow.Author.Needs.{needs}
 use native.Mathlib.Omega.{arith}
 use Rattle.numbers.proofs.WritingLaws.{put-room, put-big, put-full}

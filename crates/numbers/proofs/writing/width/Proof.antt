@@ -1,5 +1,4 @@
 -- `numbers::writing::width` meets its contract: each branch is a law of how many bytes a number has.
--- Assumes nothing.
 use mathlib.Core.Path.{sym}
 use Rattle.numbers.proofs.WritingLaws.{one-byte, two-bytes, three-bytes, four-bytes}
 use Rattle.numbers.proofs.writing.width.Statement.{statement}

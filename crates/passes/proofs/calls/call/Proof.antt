@@ -1,5 +1,4 @@
 -- With the Q fact's mark, a line of uses from the P facts that lead from where it ends.
--- Assumes nothing.
 use mathlib.Core.Path.{refl}
 use native.Mathlib.Omega.{arith}
 use borrow.Author.Needs.{needs}

@@ -1,5 +1,4 @@
 -- The guarantee is another thread's, and its mark stands where the plan says.
--- Assumes nothing.
 use mathlib.Core.Path.{subst}
 use native.Mathlib.Omega.{arith}
 use borrow.Author.Needs.{needs}

@@ -1,5 +1,4 @@
 -- The facts that end at a shared store stand in a stretch of the row.
--- Assumes nothing.
 use Prim.Native.Nat.{_+_, _*_, _≤_}
 use native.Mathlib.Omega.{arith}
 use Rattle.positions.proofs.Places.{cut}

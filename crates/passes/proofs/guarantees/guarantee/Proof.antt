@@ -1,5 +1,4 @@
 -- Where one of the guarantees acts, a line of uses from the facts that end at their first shared store.
--- Assumes nothing.
 use Prim.Native.Nat.{_+_, _*_, _≤_}
 use native.Mathlib.Omega.{arith}
 use borrow.Author.Needs.{needs}

@@ -1,5 +1,4 @@
 -- The guarantees to the first shared stores are done. Where no fact of the row ends at their first shared store, nothing lacks.
--- Assumes nothing.
 use mathlib.Core.Path.{_≡_}
 use Prim.Native.Nat.{_≤_, _-_}
 use native.Mathlib.Omega.{arith}

@@ -1,5 +1,4 @@
 -- The guarantee of none of the first e threads acts.
--- Assumes nothing.
 use mathlib.Core.Path.{_≡_, subst}
 use Prim.Native.Nat.{_≤_, _-_}
 use native.Mathlib.Omega.{arith}

@@ -1,5 +1,4 @@
 -- One use of the Q fact that ends at the row's place. Its ends are where the plan says.
--- Assumes nothing.
 use mathlib.Core.Path.{_≡_}
 use Prim.Native.Nat.{ℕ, _+_, _*_}
 use native.Mathlib.Omega.{arith}

@@ -1,5 +1,4 @@
 -- Two uses of the P fact that ends at the row's place. Their ends are where the plan says.
--- Assumes nothing.
 use mathlib.Core.Path.{_≡_, ap, _∙_}
 use Prim.Native.Nat.{_+_, _*_}
 use native.Mathlib.Omega.{arith}

@@ -1,5 +1,4 @@
 -- The rule of each kind, if the row is the thread's.
--- Assumes nothing.
 use mathlib.Core.Path.{sym, subst}
 use borrow.Author.Needs.{needs}
 use Rattle.uses.specs.declared.kinds.Kind.{Kind}

@@ -1,5 +1,4 @@
 -- Each product on the way is small, since t is below n, and the sum is below w.
--- Assumes nothing.
 use Prim.Native.Nat.{_*_, _≤_}
 use native.Mathlib.Omega.{arith}
 use borrow.Author.Needs.{needs}

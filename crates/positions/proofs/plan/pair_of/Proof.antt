@@ -1,5 +1,4 @@
 -- A pair is below k: it is two digits, the first below g and the second below l.
--- Assumes nothing.
 use Prim.Native.Nat.{_*_, _≤_}
 use native.Mathlib.Omega.{arith}
 use borrow.Author.Needs.{needs}

@@ -1,5 +1,4 @@
 -- The sizes are as the plan says, and small, since each of the four is.
--- Assumes nothing.
 use mathlib.Core.Path.{refl}
 use native.Mathlib.Omega.{arith}
 use Rattle.positions.proofs.Places.{Small, small}

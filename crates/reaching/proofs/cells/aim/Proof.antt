@@ -1,5 +1,4 @@
 -- Row 0 and the rows of the file, by cases.
--- Assumes nothing.
 use mathlib.Core.Path.{_≡_, refl, sym, _∙_}
 use Prim.Native.Nat.{_-_}
 use native.Mathlib.Omega.{arith}

@@ -1,5 +1,4 @@
 -- Each return gives the cell that the definition gives.
--- Assumes nothing.
 use mathlib.Core.Path.{sym, _∙_}
 use native.Mathlib.Omega.{arith}
 use borrow.Author.Needs.{needs}

@@ -1,5 +1,4 @@
 -- Thread t is the last one if it reaches l; else the last one before it is.
--- Assumes nothing.
 use native.Mathlib.Omega.{arith}
 use borrow.Author.Needs.{needs}
 use Rattle.store.proofs.MarkLaws.{is-true, is-false}

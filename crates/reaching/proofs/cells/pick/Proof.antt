@@ -1,6 +1,5 @@
 -- No thread before t has k for its smallest store, and u is the last of them that reaches k. A thread that does not reach k has not k for its
 -- smallest.
--- Assumes nothing.
 use mathlib.Core.Path.{_≡_, refl}
 use mathlib.Core.Logic.{⊎-elim}
 use Prim.Native.Nat.{ℕ, _-_, _≤_, _<_}

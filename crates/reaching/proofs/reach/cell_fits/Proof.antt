@@ -1,5 +1,4 @@
 -- The cell is 0, or one more than k, or neither.
--- Assumes nothing.
 use mathlib.Core.Logic.{inl}
 use borrow.Author.Needs.{needs}
 use Rattle.reaching.proofs.CellLaws.{fits-test}

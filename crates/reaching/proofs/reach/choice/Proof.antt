@@ -1,5 +1,4 @@
 -- The cell is tried first, then the marks.
--- Assumes nothing.
 use borrow.Author.Needs.{needs}
 use borrow.Author.Tests.{not-true, not-false}
 use Rattle.store.proofs.MarkLaws.{is-true, is-false}

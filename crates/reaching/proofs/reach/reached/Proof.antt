@@ -1,5 +1,4 @@
 -- No mark before the pair j. Each position that is looked at lies in the part of the P facts, and so in the memory.
--- Assumes nothing.
 use mathlib.Core.Path.{_≡_, ap, _∙_}
 use Prim.Native.Nat.{ℕ, _+_, _*_, _-_, _≤_, _<_}
 use native.Mathlib.Omega.{arith}

@@ -1,5 +1,4 @@
 -- `reader::ends::end_after` meets its contract: after a part that was read it is `end_at`, and else the part's refusal.
--- Assumes nothing.
 use borrow.Author.Needs.{needs}
 use Rattle.reader.proofs.ends.end_after.Statement.{statement}
 use Rattle.reader.proofs.ends.end_after.Tie as tie

@@ -1,5 +1,4 @@
 -- `reader::ends::ended` meets its contract: the test says which case of `endedOf` holds.
--- Assumes nothing.
 use borrow.Author.Tests.{eq-eqb, ne-eqb}
 use Rattle.reader.proofs.ends.ended.Statement.{statement}
 use Rattle.reader.proofs.ends.ended.Tie as tie

@@ -1,5 +1,4 @@
 -- `reader::fields::version` meets its contract: each way out is a law of `versionAt`, from what `number_at` gave.
--- Assumes nothing.
 use borrow.Author.Needs.{needs}
 use mathlib.Core.Path.{sym, ap, _∙_}
 use Rattle.numbers.specs.Reading.{readOf}

@@ -1,5 +1,4 @@
 -- `reader::places::left_from` meets its contract: at the end and past it the difference is 0.
--- Assumes nothing.
 use borrow.Author.Needs.{needs}
 use Rattle.reader.proofs.places.left_from.Statement.{statement}
 use Rattle.reader.proofs.places.left_from.Tie as tie

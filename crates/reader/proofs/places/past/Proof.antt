@@ -1,5 +1,4 @@
 -- `reader::places::past` meets its contract: each arm gives what `pastOf` gives for its case.
--- Assumes nothing.
 use borrow.Author.Needs.{needs}
 use Rattle.reader.proofs.places.past.Statement.{statement}
 use Rattle.reader.proofs.places.past.Tie as tie

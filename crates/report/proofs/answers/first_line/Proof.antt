@@ -1,7 +1,6 @@
 -- `report::answers::first_line` meets its contract: the answer is done if its number is 0.
--- Assumes nothing.
 use borrow.Author.Needs.{needs}
-use Rattle.rules.specs.Answers.{replyOf}
+use Rattle.check_call.specs.Answers.{replyOf}
 use Rattle.report.proofs.AnswerLaws.{reply-done, reply-refused}
 use Rattle.report.proofs.answers.first_line.Statement.{statement}
 use Rattle.report.proofs.answers.first_line.Tie as tie

@@ -1,5 +1,4 @@
 -- `report::answers::line_of_verdict` meets its contract: each arm writes what `lineOfVerdict` says for its case.
--- Assumes nothing.
 use borrow.Author.Needs.{needs}
 use Rattle.report.proofs.answers.line_of_verdict.Statement.{statement}
 use Rattle.report.proofs.answers.line_of_verdict.Tie as tie

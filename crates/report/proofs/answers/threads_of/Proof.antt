@@ -1,5 +1,4 @@
 -- `report::answers::threads_of` meets its contract: a refused header is of zeros, so its number of threads is 0.
--- Assumes nothing.
 use mathlib.Core.Path.{ap}
 use borrow.Author.Needs.{needs}
 use Rattle.files.specs.declared.header.HeaderRead.{HeaderRead}

@@ -1,5 +1,4 @@
 -- `report::answers::verdict_line` meets its contract: the verdict of an answer that is done, and no byte for any other.
--- Assumes nothing.
 use mathlib.Core.Path.{sym}
 use borrow.Author.Needs.{needs}
 use Rattle.report.proofs.answers.verdict_line.Statement.{statement}

@@ -1,5 +1,4 @@
 -- `report::facts::next_fact` meets its contract: the header that is read is the file's, and its sizes make the plan.
--- Assumes nothing.
 use mathlib.Core.Path.{_≡_}
 use borrow.Author.Needs.{needs}
 use denote.Ref.{now}

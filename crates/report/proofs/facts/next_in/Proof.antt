@@ -1,5 +1,4 @@
 -- `report::facts::next_in` meets its contract: what the search comes to is what is listed next, of any table with the plan.
--- Assumes nothing.
 use native.Mathlib.Omega.{arith}
 use borrow.Author.Needs.{needs}
 use Rattle.store.proofs.NextLaws.{next-found}

@@ -1,5 +1,4 @@
 -- `store::marks::clear_first` meets its contract: the first w bytes are lent and cleared, and the others stay as they were.
--- Assumes nothing.
 use mathlib.Core.Path.{_≡_, ap, _∙_}
 use Prim.Native.Nat.{ℕ}
 use borrow.Author.Needs.{needs}

@@ -1,5 +1,4 @@
 -- The byte is compared with 1.
--- Assumes nothing.
 use borrow.Author.Needs.{needs}
 use Rattle.store.proofs.MarkLaws.{has-test}
 use Rattle.store.proofs.marks.has.Statement.{statement}

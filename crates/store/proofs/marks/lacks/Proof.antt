@@ -1,5 +1,4 @@
 -- What is found says whether one of the first j places has a mark that its partner has not.
--- Assumes nothing.
 use mathlib.Core.Path.{_≡_, subst}
 use Prim.Native.Nat.{_≤_, _-_}
 use native.Mathlib.Omega.{arith}

@@ -1,5 +1,4 @@
 -- The loop's invariant: no mark at or past `from` stands before p.
--- Assumes nothing.
 use Prim.Native.Nat.{_-_}
 use native.Mathlib.Omega.{arith}
 use borrow.Author.Needs.{needs}

@@ -1,5 +1,4 @@
 -- The byte is set to 1.
--- Assumes nothing.
 use mathlib.Core.Path.{refl}
 use borrow.Author.Needs.{needs}
 use Rattle.store.specs.Marking.{marked}

@@ -1,5 +1,4 @@
 -- What is found says whether there is a mark among the first j places.
--- Assumes nothing.
 use mathlib.Core.Path.{_≡_, subst}
 use Prim.Native.Nat.{_≤_, _-_}
 use native.Mathlib.Omega.{arith}

@@ -1,5 +1,4 @@
 -- The five cells of the row, one after the other.
--- Assumes nothing.
 use mathlib.Core.Path.{refl}
 use borrow.Author.Needs.{needs}
 use Rattle.store.proofs.rows.row_at.Statement.{statement}

@@ -1,17 +1,16 @@
 -- The first i rows are read, and rows of zeros stand after them.
--- Assumes nothing.
 use mathlib.Core.Path.{_≡_, subst}
 use Prim.Native.Nat.{ℕ, _≤_, _-_}
 use native.Mathlib.Omega.{arith}
 use lib.ListN.{length, length-set}
 use borrow.Author.Needs.{needs}
-use Rattle.store.specs.Reading.{Listed}
+use Rattle.store.specs.Reading.{Unpacked}
 use Rattle.store.proofs.RowLaws.{listed-none, listed-next}
 use Rattle.store.proofs.rows.step_rows.Statement.{statement}
 use Rattle.store.proofs.rows.step_rows.Tie as tie
 
 abbrev Inv-loop : tie.InvT-loop
-Inv-loop steps n rows₀ i₀ rows i = (i ≤ n) × (length rows ≡ 1024) × Listed steps i rows
+Inv-loop steps n rows₀ i₀ rows i = (i ≤ n) × (length rows ≡ 1024) × Unpacked steps i rows
 
 abbrev μ-loop : tie.MeasureT-loop
 μ-loop steps n rows₀ i₀ rows i = n - i
@@ -45,7 +44,7 @@ returns c =
     let at = c .before .loop in
     let start = c .before .before .before .args in
     let e : at .i ≡ start .n = omega (arith, at .inv .0) in
-    subst (λ (k : ℕ). Listed (start .steps .now) k (at .rows)) e (at .inv .2)
+    subst (λ (k : ℕ). Unpacked (start .steps .now) k (at .rows)) e (at .inv .2)
 
 pub step-rows-spec : {M : Type 1} → statement M
 step-rows-spec =

@@ -1,5 +1,4 @@
 -- `text::lines::accepted_line` meets its contract: the line is its word and the number.
--- Assumes nothing.
 use borrow.Author.Needs.{needs}
 use Rattle.text.proofs.lines.accepted_line.Statement.{statement}
 use Rattle.text.proofs.lines.accepted_line.Tie as tie

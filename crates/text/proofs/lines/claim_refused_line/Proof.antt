@@ -1,5 +1,4 @@
 -- `text::lines::claim_refused_line` meets its contract: the line is its word and the three numbers, in their order.
--- Assumes nothing.
 use borrow.Author.Needs.{needs}
 use Rattle.text.proofs.lines.claim_refused_line.Statement.{statement}
 use Rattle.text.proofs.lines.claim_refused_line.Tie as tie

@@ -1,5 +1,4 @@
 -- `text::lines::possible_line` meets its contract: the numbers are the row, the shared store and the first n local stores.
--- Assumes nothing.
 use mathlib.Core.Path.{sym}
 use native.Mathlib.Omega.{arith}
 use lib.ListN.{length-take}

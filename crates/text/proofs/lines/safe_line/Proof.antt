@@ -1,5 +1,4 @@
 -- `text::lines::safe_line` meets its contract: the line is the word alone.
--- Assumes nothing.
 use borrow.Author.Needs.{needs}
 use Rattle.text.proofs.lines.safe_line.Statement.{statement}
 use Rattle.text.proofs.lines.safe_line.Tie as tie

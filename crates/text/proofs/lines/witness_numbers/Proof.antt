@@ -1,5 +1,4 @@
 -- `text::lines::witness_numbers` meets its contract: four local stores are a list of their numbers.
--- Assumes nothing.
 use mathlib.Core.Path.{ap}
 use mathlib.Core.List.{_∷_}
 use native.Mathlib.Omega.{arith}

@@ -1,5 +1,4 @@
 -- `truppidane::calls::truppidane_write_claim` meets its contract: the call's answer is told by its numbers, of which the first is its number.
--- Assumes nothing.
 use borrow.Author.Needs.{needs}
 use Rattle.truppidane.proofs.FirstNumber.{first-of}
 use Rattle.truppidane.proofs.calls.truppidane_write_claim.Statement.{statement}

@@ -1,5 +1,4 @@
 -- `truppidane::told::check_numbers` meets its contract: its parts are those of `checkNumbers`.
--- Assumes nothing.
 use borrow.Author.Needs.{needs}
 use Rattle.truppidane.proofs.told.check_numbers.Statement.{statement}
 use Rattle.truppidane.proofs.told.check_numbers.Tie as tie

@@ -1,5 +1,4 @@
 -- `truppidane::told::of_verdict` meets its contract: each arm gives what `ofVerdict` gives for its case.
--- Assumes nothing.
 use borrow.Author.Needs.{needs}
 use Rattle.truppidane.proofs.told.of_verdict.Statement.{statement}
 use Rattle.truppidane.proofs.told.of_verdict.Tie as tie

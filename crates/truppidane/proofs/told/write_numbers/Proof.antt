@@ -1,5 +1,4 @@
 -- `truppidane::told::write_numbers` meets its contract: its parts are those of `writeNumbers`.
--- Assumes nothing.
 use borrow.Author.Needs.{needs}
 use Rattle.truppidane.proofs.told.write_numbers.Statement.{statement}
 use Rattle.truppidane.proofs.told.write_numbers.Tie as tie

@@ -1,5 +1,4 @@
 -- If nothing lacks, nothing is done; else the first j uses are done.
--- Assumes nothing.
 use mathlib.Core.Path.{_≡_}
 use Prim.Native.Nat.{_≤_, _-_}
 use native.Mathlib.Omega.{arith}

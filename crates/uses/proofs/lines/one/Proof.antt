@@ -1,5 +1,4 @@
 -- One use, by its cases: x has no mark; y has one; none is left; y is put; y is the smallest so far; y is not.
--- Assumes nothing.
 use mathlib.Core.Path.{refl}
 use native.Mathlib.Omega.{arith}
 use borrow.Author.Needs.{needs}

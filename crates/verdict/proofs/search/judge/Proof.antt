@@ -1,11 +1,10 @@
 -- What lies before row and g is passed. At row and g, each thread before t is in its smallest store for its cell.
--- Assumes nothing.
 use mathlib.Core.Path.{_≡_, refl}
 use Prim.Native.Nat.{_-_, _≤_}
 use native.Mathlib.Omega.{arith}
 use borrow.Author.Needs.{needs}
 use Rattle.verdict.proofs.Lists.{getD-zeros}
-use Rattle.verdict.proofs.OfTable.{Ranges, errors-in-range}
+use Rattle.verdict.proofs.LentIsTable.{Ranges, errors-in-range}
 use Rattle.verdict.proofs.OneRow.{aimed-lt, unaimed-none}
 use Rattle.verdict.proofs.Progress.{
   Passed,

@@ -1,5 +1,4 @@
 -- `words::bytes::put_word` meets its contract. The loop's invariant: the first i bytes of the word are put.
--- Assumes nothing.
 use mathlib.Core.Path.{_≡_, refl}
 use Prim.Native.Nat.{_-_, _≤_}
 use native.Mathlib.Omega.{arith}

@@ -1,6 +1,5 @@
 -- `words::decimal::put_decimal` meets its contract: a number below 10 is its last digit, and any other is the digits of its tenth and the last.
 -- The measure is the number.
--- Assumes nothing.
 use Prim.Native.Nat.{ℕ, _<_}
 use native.Mathlib.Omega.{arith}
 use borrow.Fn.Kinds.{In}

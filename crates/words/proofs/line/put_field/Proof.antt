@@ -1,5 +1,4 @@
 -- `words::line::put_field` meets its contract: a blank and then the digits, of which there are at most 20.
--- Assumes nothing.
 use native.Mathlib.Omega.{arith}
 use borrow.Author.Needs.{needs}
 use Rattle.words.proofs.DecimalLaws.{field-room}

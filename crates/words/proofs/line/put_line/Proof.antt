@@ -1,5 +1,4 @@
 -- `words::line::put_line` meets its contract. The loop's invariant: the first i numbers are put after the word.
--- Assumes nothing.
 use mathlib.Core.Path.{_≡_, refl}
 use Prim.Native.Nat.{_-_, _≤_}
 use native.Mathlib.Omega.{arith}
