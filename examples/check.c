@@ -1,7 +1,8 @@
 /* Checks the table in a file and prints the answer:
  *     cc -Iinclude examples/check.c target/staticlib/libtruppidane.a -o target/check
- *     target/check FILE
- * It ends with 0 if the table is safe, 1 if an error is possible, 2 if there is no verdict. */
+ *     target/check TABLE
+ * It ends with 0 if the table is safe, 1 if an error is possible, 2 if there is no verdict: the
+ * table is refused, or the file is not read. */
 #include <stdio.h>
 #include "truppidane.h"
 
@@ -11,13 +12,21 @@ static uint8_t memory[TRUPPIDANE_MOST_MEMORY];
 int main(int argc, char **argv)
 {
     size_t told[TRUPPIDANE_NUMBERS];
-    FILE *file = argc == 2 ? fopen(argv[1], "rb") : NULL;
+    if (argc != 2) {
+        fprintf(stderr, "usage: check TABLE\n");
+        return 2;
+    }
+    FILE *file = fopen(argv[1], "rb");
     if (file == NULL) {
-        fprintf(stderr, "usage: check FILE, which has a table\n");
+        perror(argv[1]);
         return 2;
     }
     /* No table is half as long: what is wrong with a longer file is found in these bytes. */
     size_t length = fread(table, 1, sizeof table, file);
+    if (ferror(file)) {
+        perror(argv[1]);
+        return 2;
+    }
     fclose(file);
 
     /* A table has no more than W facts, so this budget holds for every table. */
