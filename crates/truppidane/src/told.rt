@@ -1,7 +1,7 @@
 // An answer as eleven numbers, for callers that have no enum.
 ghost use mathlib.Core.Path.{_≡_};
 ghost use Rattle.truppidane.specs.Told.{
-  line,
+  toldNumbers,
   noVerdict,
   ofVerdict,
   checkVerdict,
@@ -129,7 +129,7 @@ fn write_bytes(answer: WriteAnswer) -> usize
 
 // The numbers of a reply, a verdict and the bytes written, in this order.
 fn numbers_of(reply: Reply, judged: VerdictNumbers, bytes: usize) -> [usize; NUMBERS]
-    ensures { λ r. ⌜ r ≡ line reply judged bytes ⌝ }
+    ensures { λ r. ⌜ r ≡ toldNumbers reply judged bytes ⌝ }
 {
     let number = reply.number as usize;
     let origin = reply.origin as usize;
