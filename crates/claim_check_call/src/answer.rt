@@ -1,10 +1,10 @@
 // The answers of the claim check, and document 01's number, origin and value of each.
 ghost use mathlib.Core.Path.{_≡_};
 ghost use Rattle.claim_check_call.specs.Answers.{claimReplyOf};
-use numbers::refusals::Refusal;
 use check_call::answer::Reply;
 use check_call::answer::plain_reply;
 use check_call::answer::refusal_reply;
+use numbers::refusals::Refusal;
 
 // What a claim check comes back with.
 pub enum ClaimAnswer {

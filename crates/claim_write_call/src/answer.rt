@@ -1,10 +1,10 @@
 // The answers of claim writing, and document 01's number, origin and value of each.
 ghost use mathlib.Core.Path.{_≡_};
 ghost use Rattle.claim_write_call.specs.Answers.{writeReplyOf};
-use numbers::refusals::Refusal;
 use check_call::answer::Reply;
 use check_call::answer::plain_reply;
 use check_call::answer::refusal_reply;
+use numbers::refusals::Refusal;
 use verdict::search::Verdict;
 
 // What claim writing comes back with.

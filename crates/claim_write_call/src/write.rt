@@ -5,11 +5,11 @@ ghost use Rattle.files.specs.Table.{mostFacts};
 ghost use Rattle.claim_write_call.specs.ClaimWriting.{ClaimWritten};
 ghost use Rattle.claim_write_call.specs.WriteStages.{WOf, MarksWritten};
 use crate::answer::WriteAnswer;
+use check_call::answer::Answer;
 use claim_of_marks::writing::claim_width;
 use claim_of_marks::writing::put_claim;
 use files::header::read_header;
 use files::header::w_of;
-use check_call::answer::Answer;
 use store::marks::clear_first;
 use verdict::search::Verdict;
 

@@ -3,14 +3,14 @@ ghost use mathlib.Core.Path.{_≡_};
 ghost use Prim.Native.Nat.{_+_, _≤_};
 ghost use lib.ListN.{length};
 ghost use Rattle.check_call.specs.Checking.{Checked};
+use check_call::answer::Answer;
+use check_call::check::check;
 use libc::STDIN_FILENO;
 use libc::STDOUT_FILENO;
 use report::answers::first_line;
 use report::answers::verdict_line;
 use report::facts::Next;
 use report::facts::next_fact;
-use check_call::answer::Answer;
-use check_call::check::check;
 use text::lines::ROOM;
 
 // The bench's working memory, and how many facts a check may find there.

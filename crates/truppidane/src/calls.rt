@@ -4,9 +4,9 @@ use crate::told::NUMBERS;
 use crate::told::check_numbers;
 use crate::told::claim_numbers;
 use crate::told::write_numbers;
+use check_call::check::check;
 use claim_check_call::check::check_claim;
 use claim_write_call::write::write_claim;
-use check_call::check::check;
 
 // Checks a table, in working memory and within a budget of facts. Tells the answer and gives its number.
 #[no_mangle]

@@ -11,12 +11,12 @@ ghost use Rattle.truppidane.specs.Told.{
   writeNumbers,
   claimNumbers,
 };
-use claim_check_call::answer::ClaimAnswer;
-use claim_write_call::answer::WriteAnswer;
-use claim_write_call::answer::write_reply_of;
 use check_call::answer::Answer;
 use check_call::answer::Reply;
 use check_call::answer::reply_of;
+use claim_check_call::answer::ClaimAnswer;
+use claim_write_call::answer::WriteAnswer;
+use claim_write_call::answer::write_reply_of;
 use verdict::search::Verdict;
 
 // How many numbers an answer takes.
@@ -170,5 +170,9 @@ pub fn write_numbers(answer: WriteAnswer) -> [usize; NUMBERS]
 pub fn claim_numbers(answer: ClaimAnswer) -> [usize; NUMBERS]
     ensures { λ r. ⌜ r ≡ claimNumbers answer ⌝ }
 {
-    numbers_of(claim_check_call::answer::claim_reply_of(answer), no_verdict(), 0)
+    numbers_of(
+        claim_check_call::answer::claim_reply_of(answer),
+        no_verdict(),
+        0,
+    )
 }
