@@ -7,6 +7,7 @@
 --   Memory             when a memory holds the least relations, that its sum is their number, and when they are over a budget
 --   FactCounts         every sound table has one number of facts, at most W, and a memory that holds the least relations
 --   Unique             the memory, the count, the smallest numbers, the verdict and the finding are determined
+--   OwnMoves           a thread's own guarantee does not act on it: an example
 --   Claims             what a claim check finds of a set that is decided, and of marks
 --   Decide             the least relations, the verdict and the finding decided by evaluation, for lists of facts; that there always is one
 -- Lists, Counting, DecidedSets, Order and Monotone are what these share.
@@ -18,6 +19,7 @@ pub mod InRange
 pub mod Memory
 pub mod FactCounts
 pub mod Unique
+pub mod OwnMoves
 pub mod Claims
 pub mod Decide
 pub mod Lists
