@@ -74,7 +74,7 @@ fn check_tells_its_verdict_by_its_status() {
     std::fs::write(folder.join("empty"), []).unwrap();
     for (file, status, printed) in [
         ("safe", 0, "facts 5\nverdict safe\n"),
-        ("possible", 1, "facts 91\nverdict possible 0 0 0 6\n"),
+        ("possible", 1, "facts 80\nverdict possible 0 0 0 6\n"),
         ("cut", 2, "refused 1 28\n"),
         ("empty", 2, "refused 1 0\n"),
     ] {

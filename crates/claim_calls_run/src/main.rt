@@ -308,8 +308,7 @@ fn mutex_starts() {
     check_all(&mutex, 1600, &NONE);
 }
 
-// The claims of no fact, of the start facts of thread 0, of threads 0 and 1, and of all three, which is not closed, for the training table, whose
-// W is 9,600.
+// The claims of no fact, of the start fact of thread 0, and of threads 0 and 1, for the training table, whose W is 9,600.
 fn training_starts() {
     let training = training::file();
     check_all(
@@ -317,8 +316,7 @@ fn training_starts() {
         9600,
         b"\x02\x01\x00\
         \x04\x01\x01\xCF\x04\
-        \x06\x01\x02\xCF\x04\xC0\x18\
-        \x08\x01\x03\xCF\x04\xC0\x18\xC0\x18",
+        \x06\x01\x02\xCF\x04\xC0\x18",
     );
 }
 
@@ -329,6 +327,18 @@ fn starts() {
     check_all(&SMALLEST, 2, &NONE);
     mutex_starts();
     training_starts();
+}
+
+// The claim of the training table's three start facts and no other. Each thread's first step gives a G and a P fact that it lacks: the smallest of
+// these positions is told.
+fn several_missing() {
+    text(b"several missing\n");
+    let training = training::file();
+    check_all(
+        &training,
+        9600,
+        b"\x08\x01\x03\xCF\x04\xC0\x18\xC0\x18",
+    );
 }
 
 // What comes first: the table's fault, then short memory, then the claim's fault.
@@ -383,6 +393,7 @@ fn main() {
     layout();
     all_positions();
     starts();
+    several_missing();
     order();
     writing();
     written();
