@@ -14,7 +14,7 @@ use Rattle.files.specs.Table.{Table}
 use Rattle.model.specs.Positions.{factAt}
 use Rattle.words.specs.Text.{Written}
 use Rattle.fact_text.specs.FactLines.{factLine}
-use Rattle.words.proofs.Unique.{written-unique}
+use Rattle.words.proofs.Unique.{Fixes, written-unique}
 use Rattle.report.specs.declared.facts.Next.{Next}
 use Rattle.report.specs.declared.facts.Next.the-variants.{Line}
 use Rattle.report.specs.Listed.{NextIn, line, end, NextOf, read, refused}
@@ -23,6 +23,8 @@ use Rattle.report.proofs.answers.first_line.Reads as first-line
 use Rattle.report.proofs.answers.first_line.Kinds as first-line-kinds
 use Rattle.report.proofs.answers.verdict_line.Reads as verdict-line
 use Rattle.report.proofs.answers.verdict_line.Kinds as verdict-line-kinds
+use Rattle.report.proofs.answers.reason_of_reply.Reads as reason-of-reply
+use Rattle.report.proofs.answers.reason_of_reply.Kinds as reason-of-reply-kinds
 use Rattle.report.proofs.facts.next_fact.Reads as next-fact
 use Rattle.report.proofs.facts.next_fact.Kinds as next-fact-kinds
 
@@ -37,6 +39,11 @@ pub verdict-line-fixes : (κs : Lfts 2) (a : Dens κs verdict-line-kinds.ps) (x 
     (s s′ : AtExit (endedOf 2 verdict-line-kinds.ps verdict-line-kinds.r) κs)
     → verdict-line.Post κs a x s → verdict-line.Post κs a x′ s′ → (x ≡ x′) × (now (s .1 .1 .0) ≡ now (s′ .1 .1 .0))
 verdict-line-fixes κs a x x′ s s′ = written-unique
+
+-- ---- what a refusal says
+
+pub reason-of-reply-fixes : Fixes reason-of-reply-kinds.ps reason-of-reply-kinds.r reason-of-reply.Post (λ κs s. now (s .1 .0))
+reason-of-reply-fixes κs a x x′ s s′ = written-unique
 
 -- ---- the next fact
 

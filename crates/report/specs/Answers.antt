@@ -1,4 +1,4 @@
--- The lines that a listing prints of an answer of the check (document 01, "Reference tables and results").
+-- The lines that a listing prints of an answer of the check (document 01, "Reference tables and results"), and what a refusal of any call says.
 use mathlib.Core.List.{List, [], _∷_}
 use Prim.Native.Nat.{ℕ}
 use lib.Dec.{eqb}
@@ -11,6 +11,7 @@ use Rattle.check_call.specs.declared.answer.Answer.{Answer}
 use Rattle.check_call.specs.declared.answer.Answer.the-variants.{Done, Refused, Short, Over}
 use Rattle.check_call.specs.declared.answer.Reply.{Reply}
 use Rattle.text.specs.Listing.{factsLine, safeLine, possibleLine, refusedLine}
+use Rattle.text.specs.Reasons.{reasonLine}
 
 -- ---- the first line
 
@@ -35,3 +36,9 @@ verdictLine n (Over budget) = []
 -- how many threads a table file has, by its header; none if that is refused, where no check is done
 abbrev pub threadsOf : List ℕ → ℕ
 threadsOf s = headerReadOf (headerAt s) .header .sizes .threads
+
+-- ---- what a refusal says
+
+-- the reply's number, value and origin, in words; every call makes a reply
+abbrev pub reasonOfReply : Reply → List ℕ
+reasonOfReply r = reasonLine (r .number) (r .value) (r .origin)

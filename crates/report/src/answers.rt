@@ -1,9 +1,10 @@
-// The lines of an answer of the check: the first for any answer, the second for one that has a verdict.
+// The lines of an answer of the check: the first for any answer, the second for one that has a verdict. And what a refusal of any call says.
 ghost use mathlib.Core.Path.{_≡_};
 ghost use Rattle.words.specs.Text.{Written};
 ghost use Rattle.check_call.specs.Answers.{replyOf};
-ghost use Rattle.report.specs.Answers.{threadsOf, lineOfReply, lineOfVerdict, verdictLine};
+ghost use Rattle.report.specs.Answers.{threadsOf, lineOfReply, lineOfVerdict, verdictLine, reasonOfReply};
 use check_call::answer::Answer;
+use check_call::answer::Reply;
 use check_call::answer::reply_of;
 use files::header::read_header;
 use text::lines::ROOM;
@@ -11,6 +12,7 @@ use text::lines::facts_line;
 use text::lines::possible_line;
 use text::lines::refused_line;
 use text::lines::safe_line;
+use text::reasons::reason_line;
 use verdict::search::Verdict;
 
 // How many threads a table has, by its header; 0 if that is refused.
@@ -63,4 +65,13 @@ pub fn verdict_line(table: &[u8], answer: Answer, out: &mut [u8; ROOM]) -> usize
         Answer::Short { w: _ } => 0,
         Answer::Over { budget: _ } => 0,
     }
+}
+
+// What a call is refused for, in words, by the reply that it makes. Gives the line's length; a call that is done has none, and its length is 0.
+pub fn reason_of_reply(reply: Reply, out: &mut [u8; ROOM]) -> usize
+    ensures { λ r. ⌜ Written (reasonOfReply reply) (now (out .entry)) (now (out .exit)) r ⌝ }
+{
+    let number = reply.number as usize;
+    let origin = reply.origin as usize;
+    reason_line(number, reply.value, origin, out)
 }

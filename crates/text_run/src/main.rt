@@ -1,4 +1,4 @@
-// Prints lines of every kind of the listing and of the programs on claims, at the borders of their numbers and positions.
+// Prints lines of every kind of the listing and of the programs on claims, at the borders of their numbers and positions, and what each refusal says.
 ghost use Rattle.positions.specs.Plans.{Planned};
 use fact_text::line::fact_line;
 use libc::STDOUT_FILENO;
@@ -12,6 +12,7 @@ use text::lines::facts_line;
 use text::lines::possible_line;
 use text::lines::refused_line;
 use text::lines::safe_line;
+use text::reasons::reason_line;
 
 fn facts(count: usize) {
     let mut line = [0u8; ROOM];
@@ -52,6 +53,12 @@ fn accepted(count: usize) {
 fn claim_refused(number: usize, value: usize, origin: usize) {
     let mut line = [0u8; ROOM];
     let n = claim_refused_line(number, value, origin, &mut line);
+    io::write_all(STDOUT_FILENO, &line[..n]);
+}
+
+fn reason(number: usize, value: usize, origin: usize) {
+    let mut line = [0u8; ROOM];
+    let n = reason_line(number, value, origin, &mut line);
     io::write_all(STDOUT_FILENO, &line[..n]);
 }
 
@@ -128,6 +135,35 @@ fn claims() {
     claim_refused(m, m, m);
 }
 
+// What each number says; 0 and 13 say nothing.
+fn reasons() {
+    reason(0, 5, 0);
+    reason(1, 11, 0);
+    reason(2, 4, 0);
+    reason(3, 0, 0);
+    reason(4, 14, 0);
+    reason(5, 20, 0);
+    reason(6, 12, 0);
+    reason(7, 2360320, 0);
+    reason(8, 65536, 0);
+    reason(9, 0, 0);
+    reason(10, 23, 0);
+    reason(11, 1, 0);
+    reason(12, 7, 0);
+    reason(13, 5, 0);
+}
+
+// A byte of a claim is told by origin 1 alone, and only from 1 to 6. The last line is the longest.
+fn origins() {
+    reason(0, 5, 1);
+    reason(4, 2, 1);
+    reason(4, 2, 2);
+    reason(7, 36, 1);
+    let m = 18446744073709551615;
+    reason(m, m, m);
+    reason(2, m, 1);
+}
+
 fn main() {
     numbers();
     safe();
@@ -138,4 +174,6 @@ fn main() {
     limits();
     mixed();
     claims();
+    reasons();
+    origins();
 }

@@ -3,7 +3,7 @@
 use mathlib.Core.Path.{_≡_, refl, sym}
 use mathlib.Core.List.{List, [], _∷_, _++_}
 use Prim.Native.Nat.{ℕ, _+_, _/_, _%_, _≤_, _<_}
-use native.Mathlib.Nat.{add-zero}
+use native.Mathlib.Nat.{add-zero, add-assoc}
 use native.Mathlib.Numerals.{add-one}
 use native.Mathlib.Omega.{arith}
 use lib.ListN.{length, take, getD, set}
@@ -28,11 +28,11 @@ pub take-more : (l : List ℕ) (i : ℕ) → i < length l → take (i + 1) l ≡
 take-more l i h = rw (add-one, take-suc l i 0 h)
 
 -- a word, byte by byte
-module _ {i : ℕ} {d d′ : List ℕ} (word : List ℕ) (p : Put (take i word) 0 d d′ i) where
-  pub word-more : i < length word → Put (take (i + 1) word) 0 d (set d′ i (getD word i 0)) (i + 1)
-  word-more h = rw (take-more word i h) (put-then p (put-byte _ _ _))
+module _ {i at : ℕ} {d d′ : List ℕ} (word : List ℕ) (p : Put (take i word) at d d′ (at + i)) where
+  pub word-more : i < length word → Put (take (i + 1) word) at d (set d′ (at + i) (getD word i 0)) (at + (i + 1))
+  word-more h = rw (take-more word i h, ← add-assoc at i 1) (put-then p (put-byte _ _ _))
 
-  pub word-all : length word ≤ i → Put word 0 d d′ i
+  pub word-all : length word ≤ i → Put word at d d′ (at + i)
   word-all h = rw (take-all i word h) at p
 
 -- the last digit of a number

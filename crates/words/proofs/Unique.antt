@@ -10,6 +10,8 @@ use borrow.Fn.Kinds.{PK, RK, Out, Dens, resT, endedOf}
 use Rattle.words.specs.Text.{Written}
 use Rattle.words.proofs.line.put_line.Reads as put-line
 use Rattle.words.proofs.line.put_line.Kinds as put-line-kinds
+use Rattle.words.proofs.line.put_note.Reads as put-note
+use Rattle.words.proofs.line.put_note.Kinds as put-note-kinds
 
 pub written-unique : {text before after after′ : List ℕ} {r r′ : ℕ} → Written text before after r → Written text before after′ r′
     → (r ≡ r′) × (after ≡ after′)
@@ -24,3 +26,7 @@ Fixes ps r Post buffer =
 pub put-line-fixes : (κs : Lfts 3) (a : Dens κs put-line-kinds.ps) (x x′ : ℕ) (s s′ : AtExit (endedOf 3 put-line-kinds.ps put-line-kinds.r) κs)
     → put-line.Post κs a x s → put-line.Post κs a x′ s′ → (x ≡ x′) × (now (s .0) ≡ now (s′ .0))
 put-line-fixes κs a x x′ s s′ = written-unique
+
+pub put-note-fixes : (κs : Lfts 3) (a : Dens κs put-note-kinds.ps) (x x′ : ℕ) (s s′ : AtExit (endedOf 3 put-note-kinds.ps put-note-kinds.r) κs)
+    → put-note.Post κs a x s → put-note.Post κs a x′ s′ → (x ≡ x′) × (now (s .0) ≡ now (s′ .0))
+put-note-fixes κs a x x′ s s′ = written-unique

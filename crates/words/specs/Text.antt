@@ -51,6 +51,10 @@ fields (v ∷ vs) = field v ++ fields vs
 unfoldable pub line : List ℕ → List ℕ → List ℕ
 line word numbers = word ++ fields numbers ++ (lineFeed ∷ [])
 
+-- a word, one number, the rest of the sentence, and a line feed, as "byte 14: bytes after the end"
+unfoldable pub note : List ℕ → ℕ → List ℕ → List ℕ
+note word number rest = word ++ field number ++ rest ++ (lineFeed ∷ [])
+
 -- ---- writing
 
 -- r counts bytes at the start of a buffer. The second part follows from the first; it is what lending `&out[..r]` asks.

@@ -1,6 +1,6 @@
 // Bytes and words.
 ghost use mathlib.Core.List.{[], _∷_};
-ghost use Prim.Native.Nat.{_<_, _≤_};
+ghost use Prim.Native.Nat.{_+_, _<_, _≤_};
 ghost use lib.ListN.{length};
 ghost use Rattle.numbers.specs.Putting.{Put};
 
@@ -13,15 +13,15 @@ pub fn put_byte(out: &mut [u8], at: usize, b: u8) -> usize
     at + 1
 }
 
-// Puts a word at the start of `out`, and gives the place past it.
-pub fn put_word(out: &mut [u8], word: &[u8]) -> usize
-    requires { ⌜ length (now word) ≤ length (now out) ⌝ }
-    ensures { λ r. ⌜ Put (now (word .entry)) 0 (now (out .entry)) (now (out .exit)) r ⌝ }
+// Puts a word from `at` on, and gives the place past it.
+pub fn put_word(out: &mut [u8], at: usize, word: &[u8]) -> usize
+    requires { ⌜ at + length (now word) ≤ length (now out) ⌝ }
+    ensures { λ r. ⌜ Put (now (word .entry)) at (now (out .entry)) (now (out .exit)) r ⌝ }
 {
     let mut i: usize = 0;
     while i < word.len() {
-        out[i] = word[i];
+        out[at + i] = word[i];
         i += 1;
     }
-    i
+    at + i
 }
