@@ -5,7 +5,7 @@
 --   Answers     what a run and the smallest missing position answer
 -- What only private functions cite:
 --   Working     what the work comes to
---   Turns       turns of the rows of P facts
+--   Turns       turns of the stretches of P facts
 --   Starting    the memory with the start facts
 pub mod Given
 pub mod InRange

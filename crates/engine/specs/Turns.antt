@@ -1,4 +1,4 @@
--- Turns of the rows of P facts, in rounds. Only the engine's own functions cite this file.
+-- Turns of the stretches of P facts, in rounds. Only the engine's own functions cite this file.
 use mathlib.Core.Path.{_≡_}
 use mathlib.Core.Bool.{Bool, true, false}
 use mathlib.Core.List.{List}
@@ -12,22 +12,22 @@ use Rattle.engine.specs.declared.turns.Turn.{Turn}
 use Rattle.uses.specs.Uses.{Uses, Either, Under, Upto, Lacks}
 use Rattle.uses.specs.RuleUses.{StepUses}
 use Rattle.uses.specs.Passing.{Puts, Looked, Swept}
-use Rattle.uses.specs.AllUses.{PRow, QRows, AllUses}
+use Rattle.uses.specs.AllUses.{PStretch, AllQUses, AllUses}
 
--- how many rows of P facts there are
-abbrev pub rowsOf : Plan → ℕ
-rowsOf s = s .n * s .k
+-- how many stretches of P facts there are
+abbrev pub stretchCount : Plan → ℕ
+stretchCount s = s .n * s .k
 
--- of rows of k facts from p on, none from i up to j has a mark
+-- of stretches of k facts from p on, none from i up to j has a mark
 abbrev pub NoneBetween : ℕ → ℕ → List ℕ → ℕ → ℕ → Type 0
-NoneBetween p k m i j = (row : ℕ) → i ≤ row → row < j → ¬ SomeIn m (p + row * k) k
+NoneBetween p k m i j = (stretch : ℕ) → i ≤ stretch → stretch < j → ¬ SomeIn m (p + stretch * k) k
 
--- the next row from i on that has a mark, or the number of rows if none has
-pub record NextRow (s : Plan) (m : List ℕ) (i r : ℕ) : Type 0 where
+-- the next stretch from i on that has a mark, or the number of stretches if none has
+pub record NextStretch (s : Plan) (m : List ℕ) (i r : ℕ) : Type 0 where
   pub from : i ≤ r
-  pub upto : r ≤ rowsOf s
+  pub upto : r ≤ stretchCount s
   pub none : NoneBetween (s .p) (s .k) m i r
-  pub here : r < rowsOf s → SomeIn m (s .p + r * s .k) (s .k)
+  pub here : r < stretchCount s → SomeIn m (s .p + r * s .k) (s .k)
 
 -- Work under way: it carried b at first and p now. D are the uses that this round went over; `before` is how many marks could still be put when
 -- the round began. If none was put since, none of D lacks.
@@ -36,30 +36,31 @@ pub data Covered (All D : ℕ → ℕ → ℕ → Type 0) : Bool → Pass → �
   putting : {b p : Pass} {before : ℕ} {m₀ m : List ℕ} → Puts All b p m₀ m → p .left ≤ before
       → (0 < p .left → p .left ≡ before → (y : ℕ) → ¬ Lacks D m y) → Covered All D true b before p m₀ m
 
--- the uses behind a turn: on the rows of P facts before it, and after the last row on all Q facts too
+-- the uses behind a turn: on the stretches of P facts before it, and after the last stretch on all Q facts too
 abbrev pub Behind : Plan → RowCounts → List ℕ → List ℕ → List ℕ → ℕ → Uses
-Behind s n st pu po row = Either (Upto (PRow s n st pu) row) (Under (row ≡ rowsOf s) (QRows s n po))
+Behind s n st pu po stretch = Either (Upto (PStretch s n st pu) stretch) (Under (stretch ≡ stretchCount s) (AllQUses s n po))
 
--- whose turn it is; a turn past the last row ends the work
+-- whose turn it is; a turn past the last stretch ends the work
 pub record Turning (s : Plan) (n : RowCounts) (st pu po : List ℕ) (put : Bool) (b : Pass) (turn : Turn) (m₀ m : List ℕ) : Type 0 where
-  pub covered : Covered (AllUses s n st pu po) (Behind s n st pu po (turn .row)) put b (turn .before) (turn .pass) m₀ m
-  pub within : turn .row ≤ rowsOf s
-  pub last : turn .row ≡ rowsOf s → turn .pass .left ≡ turn .before
+  pub covered : Covered (AllUses s n st pu po) (Behind s n st pu po (turn .stretch)) put b (turn .before) (turn .pass) m₀ m
+  pub within : turn .stretch ≤ stretchCount s
+  pub last : turn .stretch ≡ stretchCount s → turn .pass .left ≡ turn .before
 
--- the last turn of a round: rules 2, 4 and 5 were gone over on every row
-pub record RowsDone (s : Plan) (n : RowCounts) (st pu po : List ℕ) (put : Bool) (b : Pass) (turn : Turn) (p : Pass) (m₀ m : List ℕ) : Type 0 where
-  pub covered : Covered (AllUses s n st pu po) (Upto (PRow s n st pu) (rowsOf s)) put b (turn .before) p m₀ m
-  pub row : turn .row < rowsOf s
+-- the last turn of a round: rules 2, 4 and 5 were gone over on every stretch
+pub record StretchesDone (s : Plan) (n : RowCounts) (st pu po : List ℕ) (put : Bool) (b : Pass) (turn : Turn) (p : Pass) (m₀ m : List ℕ)
+    : Type 0 where
+  pub covered : Covered (AllUses s n st pu po) (Upto (PStretch s n st pu) (stretchCount s)) put b (turn .before) p m₀ m
+  pub stretch : turn .stretch < stretchCount s
   pub fewer : p .left ≤ turn .pass .left
 
--- a number that falls with each turn: with each mark, with each row, and with each round
+-- a number that falls with each turn: with each mark, with each stretch, and with each round
 abbrev pub turnsLeft : Plan → Turn → ℕ
-turnsLeft s turn = (turn .pass .left + turn .before) * (rowsOf s + 1) + (rowsOf s - turn .row)
+turnsLeft s turn = (turn .pass .left + turn .before) * (stretchCount s + 1) + (stretchCount s - turn .stretch)
 
--- rule 4 on the turn's row, from m to m₁
+-- rule 4 on the turn's stretch, from m to m₁
 abbrev pub Stepped : Plan → RowCounts → List ℕ → Bool → Turn → Pass → List ℕ → List ℕ → Type 0
 Stepped s n st put turn stepped m m₁ =
-    Swept (StepUses s (turn .row / s .k) (turn .row % s .k) (rowOf st) (n .steps)) put (turn .pass) stepped m m₁
+    Swept (StepUses s (turn .stretch / s .k) (turn .stretch % s .k) (rowOf st) (n .steps)) put (turn .pass) stepped m m₁
 
 -- the turn after one of which rule 4 is done
 pub record Goes (s : Plan) (n : RowCounts) (st pu po : List ℕ) (put : Bool) (b : Pass) (turn r : Turn) (m₀ m : List ℕ) : Type 0 where

@@ -1,14 +1,14 @@
-// A pass over every use on Q facts: rules 3, 6 and 7, row of facts by row of facts. A row with no mark is passed over.
+// A pass over every use on Q facts: rules 3, 6 and 7, stretch by stretch. A stretch with no mark is passed over.
 ghost use Prim.Native.Nat.{_*_, _<_, _≤_};
 ghost use Rattle.store.specs.Marking.{room};
 ghost use Rattle.positions.specs.Plans.{Planned};
 ghost use Rattle.uses.specs.Ranges.{RowsIn};
 ghost use Rattle.uses.specs.Uses.{Upto};
 ghost use Rattle.uses.specs.Passing.{Swept};
-ghost use Rattle.uses.specs.AllUses.{FrameUses, QRow, QRows};
+ghost use Rattle.uses.specs.AllUses.{FrameUses, QStretches, AllQUses};
 use passes::calls::calls;
 use passes::guarantees::guarantees;
-use passes::row_rules::rows_of;
+use passes::pushes_and_pops::rows_of;
 use positions::plan::Plan;
 use positions::plan::q_from;
 use store::marks::some;
@@ -44,8 +44,8 @@ fn frames(s: Plan, t: usize, a: usize, mem: &mut [u8], put: bool, pass: Pass) ->
     sofar
 }
 
-// Row i of the Q facts: those of one thread from one pair.
-fn q_row(
+// The stretches of Q facts of one thread from one pair, that of stretch i of the P facts. Where none has a mark, they are passed over together.
+fn q_stretches(
     s: Plan,
     counts: RowCounts,
     pops: &[u8],
@@ -55,7 +55,7 @@ fn q_row(
     pass: Pass,
 ) -> Pass
     requires { ⌜ Planned s × RowsIn s (s .f) (s .l) (now pops) (counts .pops) × (i < s .n * s .k) × (s .w ≤ room (now mem)) ⌝ }
-    ensures { λ r. ⌜ Swept (QRow s counts (now (pops .entry)) i) put pass r (now (mem .entry)) (now (mem .exit)) ⌝ }
+    ensures { λ r. ⌜ Swept (QStretches s counts (now (pops .entry)) i) put pass r (now (mem .entry)) (now (mem .exit)) ⌝ }
 {
     let n = s.f * s.k;
     if !some(mem, s.q + i * n, n) {
@@ -68,7 +68,7 @@ fn q_row(
 }
 
 // All Q facts. A table without frames has none.
-pub fn q_rows(
+pub fn q_facts(
     s: Plan,
     counts: RowCounts,
     pops: &[u8],
@@ -77,7 +77,7 @@ pub fn q_rows(
     pass: Pass,
 ) -> Pass
     requires { ⌜ Planned s × RowsIn s (s .f) (s .l) (now pops) (counts .pops) × (s .w ≤ room (now mem)) ⌝ }
-    ensures { λ r. ⌜ Swept (QRows s counts (now (pops .entry))) put pass r (now (mem .entry)) (now (mem .exit)) ⌝ }
+    ensures { λ r. ⌜ Swept (AllQUses s counts (now (pops .entry))) put pass r (now (mem .entry)) (now (mem .exit)) ⌝ }
 {
     if s.f == 0 {
         return pass;
@@ -89,7 +89,7 @@ pub fn q_rows(
         if sofar.left == 0 {
             return sofar;
         }
-        sofar = q_row(s, counts, pops, i, mem, put, sofar);
+        sofar = q_stretches(s, counts, pops, i, mem, put, sofar);
         i += 1;
     }
     sofar

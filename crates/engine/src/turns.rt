@@ -1,6 +1,7 @@
-// Whose turn it is. The rows of P facts have their turns one after the other; a row that gave something has its turn again, so that a chain of
-// rows costs no more than a walk over all rows for each fact. After the last row the Q facts are gone over, unless the round put many marks; so
-// the round ends. Rounds go on until one puts nothing. In which order the work goes is free: it puts only what a rule gives, and the last round goes over every use.
+// Whose turn it is. The stretches of P facts have their turns one after the other; a stretch that gave something has its turn again, so that a chain
+// of rows costs no more than a walk over all rows for each fact. After the last stretch the Q facts are gone over, unless the round put many marks;
+// so the round ends. Rounds go on until one puts nothing. In which order the work goes is free: it puts only what a rule gives, and the last round
+// goes over every use.
 ghost use mathlib.Core.Path.{_≡_};
 ghost use mathlib.Core.List.{List};
 ghost use Prim.Native.Nat.{ℕ, _+_, _*_, _/_, _%_, _<_, _≤_};
@@ -11,10 +12,10 @@ ghost use Rattle.uses.specs.Ranges.{RowsIn};
 ghost use Rattle.engine.specs.InRange.{Given};
 ghost use Rattle.uses.specs.Passing.{Swept};
 ghost use Rattle.uses.specs.AllUses.{RestUses};
-ghost use Rattle.engine.specs.Turns.{rowsOf, NextRow, RowsDone, Turning, Stepped, Goes};
-use crate::q_facts::q_rows;
+ghost use Rattle.engine.specs.Turns.{stretchCount, NextStretch, StretchesDone, Turning, Stepped, Goes};
+use crate::q_facts::q_facts;
 use passes::guarantees::guarantees;
-use passes::row_rules::rows_of;
+use passes::pushes_and_pops::rows_of;
 use positions::plan::Plan;
 use positions::plan::p_from;
 use store::marks::some;
@@ -22,21 +23,21 @@ use store::rows::RowCounts;
 use uses::kinds::Kind;
 use uses::lines::Pass;
 
-// The row of P facts whose turn it is, and what the work carries; `before` is how many marks could still be put when the round began. A row past
-// the last ends the work.
+// The number of the stretch of P facts whose turn it is, and what the work carries; `before` is how many marks could still be put when the round
+// began. A stretch past the last ends the work.
 pub struct Turn {
-    pub row: usize,
+    pub stretch: usize,
     pub before: usize,
     pub pass: Pass,
 }
 
 // The first turn.
 pub fn first_turn(pass: Pass) -> Turn
-    ensures { λ r. ⌜ r ≡ record { row = 0; before = pass .left; pass = pass } ⌝ }
+    ensures { λ r. ⌜ r ≡ record { stretch = 0; before = pass .left; pass = pass } ⌝ }
 {
     let left = pass.left;
     Turn {
-        row: 0,
+        stretch: 0,
         before: left,
         pass: pass,
     }
@@ -45,25 +46,25 @@ pub fn first_turn(pass: Pass) -> Turn
 // Whether there is a turn.
 pub fn goes_on(s: Plan, turn: Turn) -> bool
     requires { ⌜ Planned s ⌝ }
-    ensures { λ r. ⌜ r ≡ ltb (turn .row) (rowsOf s) ⌝ }
+    ensures { λ r. ⌜ r ≡ ltb (turn .stretch) (stretchCount s) ⌝ }
 {
-    turn.row < s.n * s.k
+    turn.stretch < s.n * s.k
 }
 
-// The thread of the turn's row.
+// The thread of the turn's stretch.
 pub fn thread_of(s: Plan, turn: Turn) -> usize
-    requires { ⌜ Planned s × (turn .row < rowsOf s) ⌝ }
-    ensures { λ r. ⌜ (r ≡ turn .row / s .k) × (r < s .n) ⌝ }
+    requires { ⌜ Planned s × (turn .stretch < stretchCount s) ⌝ }
+    ensures { λ r. ⌜ (r ≡ turn .stretch / s .k) × (r < s .n) ⌝ }
 {
-    turn.row / s.k
+    turn.stretch / s.k
 }
 
-// The pair from which the facts of the turn's row lead.
+// The pair from which the facts of the turn's stretch lead.
 pub fn pair_from(s: Plan, turn: Turn) -> usize
-    requires { ⌜ Planned s × (turn .row < rowsOf s) ⌝ }
-    ensures { λ r. ⌜ (r ≡ turn .row % s .k) × (r < s .k) ⌝ }
+    requires { ⌜ Planned s × (turn .stretch < stretchCount s) ⌝ }
+    ensures { λ r. ⌜ (r ≡ turn .stretch % s .k) × (r < s .k) ⌝ }
 {
-    turn.row % s.k
+    turn.stretch % s.k
 }
 
 // What the work carries.
@@ -73,20 +74,20 @@ pub fn pass_of(turn: Turn) -> Pass
     turn.pass
 }
 
-// The next row of P facts from i on that has a mark, or how many rows there are.
-fn next_row(s: Plan, mem: &[u8], i: usize) -> usize
-    requires { ⌜ Planned s × (i ≤ rowsOf s) × (s .w ≤ room (now mem)) ⌝ }
-    ensures { λ r. ⌜ NextRow s (now (mem .entry)) i r ⌝ }
+// The next stretch of P facts from i on that has a mark, or how many stretches there are.
+fn next_stretch(s: Plan, mem: &[u8], i: usize) -> usize
+    requires { ⌜ Planned s × (i ≤ stretchCount s) × (s .w ≤ room (now mem)) ⌝ }
+    ensures { λ r. ⌜ NextStretch s (now (mem .entry)) i r ⌝ }
 {
     let k = s.k;
     let p = s.p;
     let last = s.n * s.k;
-    let mut row = i;
-    while row < last {
-        if some(mem, p + row * k, k) {
-            return row;
+    let mut stretch = i;
+    while stretch < last {
+        if some(mem, p + stretch * k, k) {
+            return stretch;
         }
-        row += 1;
+        stretch += 1;
     }
     last
 }
@@ -109,7 +110,7 @@ fn p_rest(
     guarantees(s, t, p_from(s, t, a), mem, put, pushed)
 }
 
-// How many marks for each row of P facts are many.
+// How many marks for each stretch of P facts are many.
 const MANY: usize = 16;
 
 // Whether a round put more marks than so many: how many could be put before it, and how many can be put after it.
@@ -122,7 +123,7 @@ fn put_more(before: usize, left: usize, many: usize) -> bool
     many < before - left
 }
 
-// The end of a round over the rows of P facts. If it put many marks for each row, another begins at once, since there may be more Q facts
+// The end of a round over the stretches of P facts. If it put many marks for each stretch, another begins at once, since there may be more Q facts
 // by far. Else the Q facts are gone over; if the round put nothing, or none is left to put, this ends the work.
 fn end_of_round(
     s: Plan,
@@ -135,7 +136,7 @@ fn end_of_round(
 ) -> Turn
     requires { ⌜ Planned s × RowsIn s (s .f) (s .l) (now pops) (counts .pops) × (s .w ≤ room (now mem)) ⌝ }
     ensures { λ r. ⌜ ((st pu : List ℕ) (b : Pass) (m₀ : List ℕ)
-        → RowsDone s counts st pu (now (pops .entry)) put b turn pass m₀ (now (mem .entry))
+        → StretchesDone s counts st pu (now (pops .entry)) put b turn pass m₀ (now (mem .entry))
         → Goes s counts st pu (now (pops .entry)) put b turn r m₀ (now (mem .exit))) ⌝ }
 {
     let last = s.n * s.k;
@@ -143,29 +144,29 @@ fn end_of_round(
     let rest = pass.left;
     if put_more(before, rest, last * MANY) {
         return Turn {
-            row: 0,
+            stretch: 0,
             before: rest,
             pass: pass,
         };
     }
-    let end = q_rows(s, counts, pops, mem, put, pass);
+    let end = q_facts(s, counts, pops, mem, put, pass);
     let left = end.left;
     if left == before {
         return Turn {
-            row: last,
+            stretch: last,
             before: left,
             pass: end,
         };
     }
     if left == 0 {
         return Turn {
-            row: last,
+            stretch: last,
             before: left,
             pass: end,
         };
     }
     Turn {
-        row: 0,
+        stretch: 0,
         before: left,
         pass: end,
     }
@@ -183,36 +184,45 @@ pub fn next_turn(
     stepped: Pass,
 ) -> Turn
     requires { ⌜ Planned s × RowsIn s (s .l) (s .f) (now pushes) (counts .pushes) × RowsIn s (s .f) (s .l) (now pops) (counts .pops)
-        × (turn .row < rowsOf s) × (s .w ≤ room (now mem)) ⌝ }
+        × (turn .stretch < stretchCount s) × (s .w ≤ room (now mem)) ⌝ }
     ensures { λ r. ⌜ ((st : List ℕ) (b : Pass) (m₀ m : List ℕ) → Given s counts st (now (pushes .entry)) (now (pops .entry))
         → Turning s counts st (now (pushes .entry)) (now (pops .entry)) put b turn m₀ m
         → Stepped s counts st put turn stepped m (now (mem .entry))
         → Goes s counts st (now (pushes .entry)) (now (pops .entry)) put b turn r m₀ (now (mem .exit))) ⌝ }
 {
     let last = s.n * s.k;
-    let row = turn.row;
+    let stretch = turn.stretch;
     let before = turn.before;
     let had = turn.pass;
-    let pass = p_rest(s, counts, pushes, row / s.k, row % s.k, mem, put, stepped);
+    let pass = p_rest(
+        s,
+        counts,
+        pushes,
+        stretch / s.k,
+        stretch % s.k,
+        mem,
+        put,
+        stepped,
+    );
     let left = pass.left;
     if left == 0 {
         return Turn {
-            row: last,
+            stretch: last,
             before: left,
             pass: pass,
         };
     }
     if left != had.left {
         return Turn {
-            row: row,
+            stretch: stretch,
             before: before,
             pass: pass,
         };
     }
-    let next = next_row(s, mem, row + 1);
+    let next = next_stretch(s, mem, stretch + 1);
     if next < last {
         return Turn {
-            row: next,
+            stretch: next,
             before: before,
             pass: pass,
         };

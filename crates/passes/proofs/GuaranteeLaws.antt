@@ -1,4 +1,4 @@
--- Rules 2 and 3. Their tests: whether a thread's guarantee acts, whether one of them does, and whether facts of a row end at a shared store. And
+-- Rules 2 and 3. Their tests: whether a thread's guarantee acts, whether one of them does, and whether facts of a stretch end at a shared store. And
 -- their uses: of the guarantees from one shared store to another, one that acts stands for all.
 use mathlib.Core.Path.{_≡_, refl, subst}
 use mathlib.Core.Bool.{Bool, true, false, not}
@@ -35,7 +35,7 @@ next-some {m} {x} {p} n next = go (eqb p (x + n)) refl
         let at : p ≡ x + (p - x) = omega (arith, k .past) in
         record { j = p - x; lt = omega (arith, k .past, k .below); here = subst (Has m) at (k .has) }
 
--- the guarantees from g to g′, on the row of facts of t from x on
+-- the guarantees from g to g′, on the stretch of facts of t from x on
 module _ (s : Plan) (t x g g′ : ℕ) where
   -- what one of them moves is what all of them move
   pub moved-any : {put : Bool} {b r : Pass} {m m′ : List ℕ} → Among (Acts s t m g g′) (s .n)

@@ -1,4 +1,4 @@
-// Rule 6 on a row of Q facts of a thread t: those from one pair with one frame, which stand from y on. Each of them goes on with every P fact
+// Rule 6 on a stretch of Q facts of a thread t: those from one pair with one frame, which stand from y on. Each of them goes on with every P fact
 // that leads from where it ends.
 ghost use Prim.Native.Nat.{_+_, _<_, _≤_};
 ghost use Rattle.store.specs.Marking.{room};

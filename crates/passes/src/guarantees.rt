@@ -1,4 +1,4 @@
-// Rules 2 and 3 on a row of facts of a thread t, which stand from x on: P facts from one pair, or Q facts from one pair with one frame. A
+// Rules 2 and 3 on a stretch of facts of a thread t, which stand from x on: P facts from one pair, or Q facts from one pair with one frame. A
 // guarantee of another thread moves those that end at its first shared store. Guarantees that several threads have from one shared store to
 // another move the same facts, so they are taken together: the facts are gone over once.
 ghost use Prim.Native.Nat.{_+_, _*_, _<_, _≤_};
@@ -63,7 +63,7 @@ fn guarantee(
     line(mem, put, pass, x + from * l, x + to * l, l)
 }
 
-// Whether a fact of the row ends at shared store g. It stops at the first mark, which is near where there are many.
+// Whether a fact of the stretch ends at shared store g. It stops at the first mark, which is near where there are many.
 fn ends_at(s: Plan, x: usize, g: usize, mem: &[u8]) -> bool
     requires { ⌜ Planned s × (g < s .g) × (x + s .k ≤ s .w) × (s .w ≤ room (now mem)) ⌝ }
     ensures { λ r. ⌜ Is (SomeIn (now (mem .entry)) (x + g * s .l) (s .l)) r ⌝ }
@@ -73,7 +73,7 @@ fn ends_at(s: Plan, x: usize, g: usize, mem: &[u8]) -> bool
     next_mark(mem, first, end) != end
 }
 
-// Rule 2 or 3 for the guarantees from one shared store. Where no fact of the row ends there, they move nothing.
+// Rule 2 or 3 for the guarantees from one shared store. Where no fact of the stretch ends there, they move nothing.
 fn guarantees_from(
     s: Plan,
     t: usize,

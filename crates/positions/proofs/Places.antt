@@ -16,23 +16,23 @@ module _ {s : Plan} (h : Planned s) where
   pub p-line : {t c j : ℕ} → t < s .n → c < s .k → j < s .k → pAt s t c + j * s .k < s .q
   p-line a b c = omega (arith, digits-lt (digits-lt a c) b, h .q)
 
-  -- a row of P facts
-  pub p-row : {t a : ℕ} → t < s .n → a < s .k → pFrom s t a + s .k ≤ s .q
-  p-row {t} {a} x y = omega (arith, mul-le-mul-right (s .k) (digits-lt x y), h .q)
+  -- a stretch of P facts
+  pub p-stretch : {t a : ℕ} → t < s .n → a < s .k → pFrom s t a + s .k ≤ s .q
+  p-stretch {t} {a} x y = omega (arith, mul-le-mul-right (s .k) (digits-lt x y), h .q)
 
-  -- the rows of Q facts from a pair, and one of them
-  pub q-rows : {t a : ℕ} → t < s .n → a < s .k → qFrom s t a + s .f * s .k ≤ s .w
-  q-rows {t} {a} x y = omega (arith, mul-le-mul-right (s .f * s .k) (digits-lt x y), h .w)
+  -- the stretches of Q facts from a pair, and one of them
+  pub q-stretches : {t a : ℕ} → t < s .n → a < s .k → qFrom s t a + s .f * s .k ≤ s .w
+  q-stretches {t} {a} x y = omega (arith, mul-le-mul-right (s .f * s .k) (digits-lt x y), h .w)
 
-  pub q-row : {f : ℕ} → f < s .f → f * s .k + s .k ≤ s .f * s .k
-  q-row {f} x = omega (arith, mul-le-mul-right (s .k) x)
+  pub q-stretch : {f : ℕ} → f < s .f → f * s .k + s .k ≤ s .f * s .k
+  q-stretch {f} x = omega (arith, mul-le-mul-right (s .k) x)
 
-  -- a fact in its row
+  -- a fact in its stretch
   pub p-lt : {t a c : ℕ} → t < s .n → a < s .k → c < s .k → pFrom s t a + c < s .w
-  p-lt x y z = omega (arith, p-row x y, h .w)
+  p-lt x y z = omega (arith, p-stretch x y, h .w)
 
   pub q-lt : {t a f c : ℕ} → t < s .n → a < s .k → f < s .f → c < s .k → qFrom s t a + f * s .k + c < s .w
-  q-lt x y z u = omega (arith, q-rows x y, q-row z)
+  q-lt x y z u = omega (arith, q-stretches x y, q-stretch z)
 
   pub g-lt : {t g g′ : ℕ} → t < s .n → g < s .g → g′ < s .g → gAt s t g g′ < s .p
   g-lt a b c = omega (arith, digits-lt (digits-lt a b) c, h .p)
@@ -49,9 +49,9 @@ module _ {s : Plan} (h : Planned s) where
       let b = mul-le-mul {n₁ = t} {n₂ = 4} {m₂ = 256} (omega (arith, h .n-max)) (h .k-max) in
       (b, mul-le-mul {n₁ = t * s .k} {n₂ = 1024} {m₂ = 256} b (h .k-max))
 
-  pub row-small : {t a : ℕ} → t < s .n → a < s .k → (t * s .k ≤ 1024) × ((t * s .k + a) * s .k ≤ 327680) × (s .f * s .k ≤ 2048)
+  pub stretch-small : {t a : ℕ} → t < s .n → a < s .k → (t * s .k ≤ 1024) × ((t * s .k + a) * s .k ≤ 327680) × (s .f * s .k ≤ 2048)
       × ((t * s .k + a) * (s .f * s .k) ≤ 2621440)
-  row-small {t} {a} x y =
+  stretch-small {t} {a} x y =
       let b : t * s .k + a ≤ 1280 = omega (arith, p-small x, h .k-max) in
       let fk = mul-le-mul {n₂ = 8} {m₂ = 256} (h .f-max) (h .k-max) in (
         p-small x .0,
@@ -77,7 +77,7 @@ module _ {s : Plan} (h : Planned s) where
 pub record Called (s : Plan) (i : ℕ) : Type 0 where
   pub k-pos : 0 < s .k
   pub f-pos : 0 < s .f
-  pub row : i / s .k < s .n * s .k * s .f
+  pub stretch : i / s .k < s .n * s .k * s .f
   pub t : i / s .k / s .f / s .k < s .n
   pub c : i % s .k < s .k
 
@@ -86,7 +86,7 @@ called {s} {i} h l =
     let kp = right-pos (s .n * s .k * s .f) (s .k) l in
     let r = div-lt-iff-lt-mul kp .1 l in
     let fp = right-pos (s .n * s .k) (s .f) r in
-    record { k-pos = kp; f-pos = fp; row = r; t = div-lt-iff-lt-mul kp .1 (div-lt-iff-lt-mul fp .1 r); c = mod-lt i kp }
+    record { k-pos = kp; f-pos = fp; stretch = r; t = div-lt-iff-lt-mul kp .1 (div-lt-iff-lt-mul fp .1 r); c = mod-lt i kp }
 
 -- the sizes are small
 pub record Small (n g l f : ℕ) : Type 0 where

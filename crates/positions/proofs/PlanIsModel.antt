@@ -31,14 +31,14 @@ module _ (T : Table) where
   unfolding pos baseP
   pos-p t a k g l = omega arith
 
-  -- a fact stands in its row
-  pub pos-p-row : (t a k g l : ℕ) → pos T (P t a k g l) ≡ pFrom s t (a * T .L + k) + (g * T .L + l)
+  -- a fact stands in its stretch
+  pub pos-p-stretch : (t a k g l : ℕ) → pos T (P t a k g l) ≡ pFrom s t (a * T .L + k) + (g * T .L + l)
   unfolding pos baseP
-  pos-p-row t a k g l = omega arith
+  pos-p-stretch t a k g l = omega arith
 
-  pub pos-q-row : (t a k f g l : ℕ) → pos T (Q t a k f g l) ≡ qFrom s t (a * T .L + k) + f * K + (g * T .L + l)
+  pub pos-q-stretch : (t a k f g l : ℕ) → pos T (Q t a k f g l) ≡ qFrom s t (a * T .L + k) + f * K + (g * T .L + l)
   unfolding pos baseQ
-  pos-q-row t a k f g l = omega arith
+  pos-q-stretch t a k f g l = omega arith
 
   -- a number j is the pair of its two digits
   pub pair-digits : (j : ℕ) → j / T .L * T .L + j % T .L ≡ j
@@ -46,14 +46,14 @@ module _ (T : Table) where
 
   -- the facts from pair j
   pub pos-p-from : (t j g l : ℕ) → pos T (P t (j / T .L) (j % T .L) g l) ≡ pFrom s t j + (g * T .L + l)
-  pos-p-from t j g l = pos-p-row t _ _ g l ∙ ap (λ z. pFrom s t z + (g * T .L + l)) (pair-digits j)
+  pos-p-from t j g l = pos-p-stretch t _ _ g l ∙ ap (λ z. pFrom s t z + (g * T .L + l)) (pair-digits j)
 
   -- and by the pair where they end
   pub pos-p-to : (t j g l : ℕ) → pos T (P t (j / T .L) (j % T .L) g l) ≡ pAt s t (g * T .L + l) + j * K
   pos-p-to t j g l = pos-p t _ _ g l ∙ ap (λ z. pAt s t (g * T .L + l) + z * K) (pair-digits j)
 
   pub pos-q-from : (t j f g l : ℕ) → pos T (Q t (j / T .L) (j % T .L) f g l) ≡ qFrom s t j + f * K + (g * T .L + l)
-  pos-q-from t j f g l = pos-q-row t _ _ f g l ∙ ap (λ z. qFrom s t z + f * K + (g * T .L + l)) (pair-digits j)
+  pos-q-from t j f g l = pos-q-stretch t _ _ f g l ∙ ap (λ z. qFrom s t z + f * K + (g * T .L + l)) (pair-digits j)
 
   module _ (sound : Sound T) where
     -- a number below K is a pair

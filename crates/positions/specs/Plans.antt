@@ -1,4 +1,5 @@
--- Where the facts stand, with the sizes of a table worked out once (01, "Working memory and claims").
+-- Where the facts stand, with the sizes of a table worked out once (01, "Working memory and claims"). The P facts of a thread from one pair stand
+-- side by side, one for each pair where a fact may end, and so do its Q facts from one pair with one frame: this is a stretch of facts.
 use mathlib.Core.Path.{_≡_}
 use Prim.Native.Nat.{ℕ, _+_, _*_, _<_, _≤_}
 use Rattle.files.specs.Table.{Table, mostThreads, mostShared, mostLocals, mostFrames, mostFacts}
@@ -28,11 +29,11 @@ pair s g l = g * s .l + l
 abbrev pub pAt : Plan → ℕ → ℕ → ℕ
 pAt s t c = s .p + t * s .k * s .k + c
 
--- the row of P facts of t from pair a; the one to pair c stands c further
+-- where the stretch of P facts of t from pair a begins; the one to pair c stands c further
 abbrev pub pFrom : Plan → ℕ → ℕ → ℕ
 pFrom s t a = s .p + (t * s .k + a) * s .k
 
--- the rows of Q facts of t from pair a, one for each frame; the fact with frame f to pair c stands f * k + c further
+-- where the stretches of Q facts of t from pair a begin, one for each frame; the fact with frame f to pair c stands f * k + c further
 abbrev pub qFrom : Plan → ℕ → ℕ → ℕ
 qFrom s t a = s .q + (t * s .k + a) * (s .f * s .k)
 

@@ -1,4 +1,5 @@
-// The plan of a table: its sizes, worked out once, and where facts and rows of facts stand by them.
+// The plan of a table: its sizes, worked out once, and where facts and stretches of facts stand by them. A stretch is the P facts of a thread from
+// one pair, or its Q facts from one pair with one frame, side by side.
 ghost use mathlib.Core.Path.{_≡_};
 ghost use Prim.Native.Nat.{_+_, _*_, _<_, _≤_};
 ghost use Rattle.files.specs.Table.{mostThreads, mostShared, mostLocals, mostFrames};
@@ -68,7 +69,7 @@ pub fn p_at(s: Plan, t: usize, c: usize) -> usize
     s.p + t * s.k * s.k + c
 }
 
-// Where the row of P facts of t from pair a begins; the one to pair c stands c further.
+// Where the stretch of P facts of t from pair a begins; the one to pair c stands c further.
 pub fn p_from(s: Plan, t: usize, a: usize) -> usize
     requires { ⌜ Planned s × (t < s .n) × (a < s .k) ⌝ }
     ensures { λ r. ⌜ r ≡ pFrom s t a ⌝ }
@@ -76,7 +77,7 @@ pub fn p_from(s: Plan, t: usize, a: usize) -> usize
     s.p + (t * s.k + a) * s.k
 }
 
-// Where the rows of Q facts of t from pair a begin, one for each frame; the fact with frame f to pair c stands f * k + c further.
+// Where the stretches of Q facts of t from pair a begin, one for each frame; the fact with frame f to pair c stands f * k + c further.
 pub fn q_from(s: Plan, t: usize, a: usize) -> usize
     requires { ⌜ Planned s × (t < s .n) × (a < s .k) ⌝ }
     ensures { λ r. ⌜ r ≡ qFrom s t a ⌝ }

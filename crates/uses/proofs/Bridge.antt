@@ -1,5 +1,5 @@
 -- What joins uses at positions with uses of the rules: a use of a set from marks, and a fact that a rule yields from marked facts. On the way
--- from the rules, `Used` goes up from a set to the sets that it is part of; on the way back, the facts of a row stand at its places.
+-- from the rules, `Used` goes up from a set to the sets that it is part of; on the way back, the facts of a stretch stand at its places.
 use mathlib.Core.Path.{_≡_, sym, _∙_}
 use mathlib.Core.Logic.{inl, inr}
 use mathlib.Core.List.{List}
@@ -67,7 +67,7 @@ module _ {T : Table} {m : List ℕ} where
   one-yields s s′ rule u h =
       record { f = _; fits = s′ .fits; here = s′ .here ∙ sym (u .2); yields = rule (marked-at s (u .1) h) }
 
--- the places of facts: G facts, and those from pair a, in their row
+-- the places of facts: G facts, and those from pair a, in their stretch
 pub g-stands : {T : Table} {t g g′ : ℕ} → t < T .n → g < T .G → g′ < T .G → Stands T (gAt (planOf T) t g g′) (G t g g′)
 g-stands {T} t g g′ = record { fits = (t, g, g′); here = pos-g T _ _ _ }
 

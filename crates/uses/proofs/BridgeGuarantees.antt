@@ -1,5 +1,5 @@
--- Rules 2 and 3: the uses of the G facts at positions, on a row of facts of t, are the uses of the rules. Both rules are one law, for any row
--- of facts that begins at x: the fact of it that ends at g, l stands at the pair of g and l, and a guarantee of another thread moves it.
+-- Rules 2 and 3: the uses of the G facts at positions, on a stretch of facts of t, are the uses of the rules. Both rules are one law, for any
+-- stretch that begins at x: the fact of it that ends at g, l stands at the pair of g and l, and a guarantee of another thread moves it.
 use mathlib.Core.Path.{_≡_, _∙_}
 use mathlib.Core.Logic.{_≢_}
 use mathlib.Core.List.{List}
@@ -18,7 +18,7 @@ use Rattle.uses.specs.Uses.{Uses, Upto}
 use Rattle.uses.specs.RuleUses.{MovedFrom}
 use Rattle.uses.proofs.Bridge.{Used, upto-at, Yielded, marked-at, one-yields, g-stands}
 
--- the uses on the row from x on
+-- the uses on the stretch from x on
 abbrev Moved : Table → ℕ → ℕ → Uses
 Moved T t x = Upto (MovedFrom (planOf T) t x) (T .G)
 

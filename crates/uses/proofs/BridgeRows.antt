@@ -12,7 +12,7 @@ use Rattle.store.specs.declared.rows.Row.{Row}
 use Rattle.store.specs.Marking.{Has}
 use Rattle.positions.specs.Plans.{planOf}
 use Rattle.store.specs.Reading.{rowOf, asStep, asPush, asPop, Same}
-use Rattle.positions.proofs.PlanIsModel.{pos-g, pos-p-row, pos-q-row}
+use Rattle.positions.proofs.PlanIsModel.{pos-g, pos-p-stretch, pos-q-stretch}
 use Rattle.uses.specs.declared.kinds.Kind.the-variants.{Push as Pushing, Pop as Popping}
 use Rattle.uses.specs.Uses.{Uses}
 use Rattle.uses.specs.RuleUses.{StepUse, PushUse, PopUse, OfRows, StepUses, RowUses}
@@ -60,8 +60,8 @@ module _ (T : Table) (m : List ℕ) (n : ℕ) (rows : List ℕ) (a b : ℕ) wher
   step-used same =
       each same StepGives (λ i lt h.
       let r = rowOf rows i in
-      let e = pos-p-row T (r .t) a b (r .g) (r .l) in (
-        used-from h (upto-at i lt (refl, inl (e, e, pos-p-row T (r .t) a b (r .u) (r .v)))),
+      let e = pos-p-stretch T (r .t) a b (r .g) (r .l) in (
+        used-from h (upto-at i lt (refl, inl (e, e, pos-p-stretch T (r .t) a b (r .u) (r .v)))),
         used-from h (upto-at i lt (refl, inr (e, e, pos-g T (r .t) (r .g) (r .u)))),
       ))
 
@@ -75,9 +75,9 @@ module _ (T : Table) (m : List ℕ) (n : ℕ) (rows : List ℕ) (a b : ℕ) wher
   push-used same =
       each same PushGives (λ i lt h.
       let r = rowOf rows i in
-      let e = pos-p-row T (r .t) a b (r .g) (r .l) in (
-        used-from h (upto-at i lt (refl, inl (e, e, pos-q-row T (r .t) a b (r .v) (r .g) (r .u)))),
-        used-from h (upto-at i lt (refl, inr (e, e, pos-p-row T (r .t) (r .g) (r .u) (r .g) (r .u)))),
+      let e = pos-p-stretch T (r .t) a b (r .g) (r .l) in (
+        used-from h (upto-at i lt (refl, inl (e, e, pos-q-stretch T (r .t) a b (r .v) (r .g) (r .u)))),
+        used-from h (upto-at i lt (refl, inr (e, e, pos-p-stretch T (r .t) (r .g) (r .u) (r .g) (r .u)))),
       ))
 
   -- rule 7
@@ -88,8 +88,8 @@ module _ (T : Table) (m : List ℕ) (n : ℕ) (rows : List ℕ) (a b : ℕ) wher
   pop-used same =
       each same PopGives (λ i lt h.
       let r = rowOf rows i in
-      let e = pos-q-row T (r .t) a b (r .u) (r .g) (r .l) in
-      used-from h (upto-at i lt (refl, (e, e, pos-p-row T (r .t) a b (r .g) (r .v)))))
+      let e = pos-q-stretch T (r .t) a b (r .u) (r .g) (r .l) in
+      used-from h (upto-at i lt (refl, (e, e, pos-p-stretch T (r .t) a b (r .g) (r .v)))))
 
 -- ---- to uses of the rules, on the facts from pair a: by one row, and by the first n
 
@@ -112,7 +112,7 @@ module _ {T : Table} (sound : Sound T) {m : List ℕ} {a q x y : ℕ} (ah : a < 
       one-yields (p-stands sound (ok .t) ah (ok .g) (ok .l)) (q-stands sound (ok .t) ah (ok .f) (ok .g) (ok .l′)) (λ p. push-Q p row) u h
   push-one r ok row (inr u) =
       one-yields (p-stands sound (ok .t) ah (ok .g) (ok .l))
-      (record { fits = (ok .t, ok .g, ok .l′, ok .g, ok .l′); here = pos-p-row T (r .t) (r .g) (r .u) (r .g) (r .u) }) (λ p. push-P p row) u h
+      (record { fits = (ok .t, ok .g, ok .l′, ok .g, ok .l′); here = pos-p-stretch T (r .t) (r .g) (r .u) (r .g) (r .u) }) (λ p. push-P p row) u h
 
   pub push-yields : (t : ℕ) {n : ℕ} {rows : List ℕ} → Same asPush rows n (T .pushes) → RowUses Pushing (planOf T) t a rows n q x y → Yielded T m y
   push-yields t same =

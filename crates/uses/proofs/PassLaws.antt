@@ -287,7 +287,7 @@ pub one-at : {x x′ y y′ : ℕ} {put : Bool} {b r : Pass} {m m′ : List ℕ}
 one-at {x′} {y} {put} {b} {r} {m} {m′} p q s =
     subst (λ z. Swept (Single x′ z) put b r m m′) q (subst (λ z. Swept (Single z y) put b r m m′) p s)
 
--- ---- a row of facts with no mark
+-- ---- a stretch of facts with no mark
 
 -- if every use from marks has one of them among the n from x on, and there is none, then nothing lacks
 pub swept-empty : {U : Uses} (x : ℕ) {n : ℕ} {b : Pass} {m : List ℕ} (put : Bool)

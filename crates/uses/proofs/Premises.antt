@@ -1,4 +1,4 @@
--- Each use on a row of facts has a premise in it. So a row of facts with no mark gives nothing.
+-- Each use on a stretch of facts has a premise in it. So a stretch with no mark gives nothing.
 use mathlib.Core.Path.{_≡_, refl, subst}
 use mathlib.Core.Logic.{inl, inr}
 use mathlib.Core.List.{List}
@@ -9,7 +9,7 @@ use Rattle.store.specs.declared.rows.Row.{Row}
 use Rattle.store.specs.Marking.{Has, SomeIn}
 use Rattle.positions.specs.Plans.{Planned, pFrom, qFrom}
 use Rattle.store.specs.Reading.{rowOf}
-use Rattle.positions.proofs.Places.{pair-lt, q-row, cut}
+use Rattle.positions.proofs.Places.{pair-lt, q-stretch, cut}
 use Rattle.uses.specs.declared.kinds.Kind.the-variants.{Push, Pop}
 use Rattle.uses.specs.Ranges.{EachIn}
 use Rattle.uses.specs.Uses.{Single, Either, Upto}
@@ -50,7 +50,7 @@ module _ (m : List ℕ) where
     pops-in rows fit t a u hz =
         let r = fit (u .k) (u .lt) in
         let d = rowOf rows (u .k) .u * s .k in
-        some-part _ _ d refl (q-row h (r .u)) (some-at _ _ (pair-lt h (r .g) (r .l)) (u .given .1 .1) hz)
+        some-part _ _ d refl (q-stretch h (r .u)) (some-at _ _ (pair-lt h (r .g) (r .l)) (u .given .1 .1) hz)
 
     -- rule 6
     pub calls-in : (t x : ℕ) {q z y : ℕ} → Upto (CallUse s t x) (s .k) q z y → Has m q → SomeIn m x (s .k)

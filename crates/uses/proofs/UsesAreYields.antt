@@ -16,10 +16,10 @@ use Rattle.store.specs.Marking.{Has}
 use Rattle.positions.specs.Plans.{planOf}
 use Rattle.store.specs.Reading.{Reads}
 use Rattle.store.proofs.MarkLaws.{marked-has}
-use Rattle.positions.proofs.PlanIsModel.{planned, pos-p-row, pos-q-row}
+use Rattle.positions.proofs.PlanIsModel.{planned, pos-p-stretch, pos-q-stretch}
 use Rattle.uses.specs.Uses.{Uses, Lacks}
 use Rattle.uses.specs.AllUses.{PUses, FrameUses, QUses, AllUses}
-use Rattle.uses.proofs.RowNumbers.{row-thread, row-pair, row-of}
+use Rattle.uses.proofs.StretchNumbers.{stretch-thread, stretch-pair, stretch-of}
 use Rattle.uses.proofs.Bridge.{Used, upto-at, used-to, used-inl, used-inr, used-lacks, Yielded, marked-at, p-stands, q-stands}
 use Rattle.uses.proofs.BridgeRows.{step-used, step-yields, push-used, push-yields, pop-used, pop-yields}
 use Rattle.uses.proofs.BridgeCalls.{call-used, call-yields}
@@ -32,13 +32,13 @@ module _ {T : Table} (sound : Sound T) {n : RowCounts} {st pu po : List ℕ} (re
   abbrev All : Uses
   All = AllUses s n st pu po
 
-  -- ---- from uses of the rules: on the P facts, the Q facts or the Q facts of one frame, in the row of a marked fact
+  -- ---- from uses of the rules: on the P facts, the Q facts or the Q facts of one frame, in the stretch of a marked fact
 
   on-P : {t a b g l y : ℕ} → Marked T m (P t a b g l) → Used (PUses s n st pu t (a * T .L + b)) m y → Used All m y
-  on-P p = used-to (λ q x u. inl (row-of (PUses s n st pu) (p .fits .0) (digits-lt (p .fits .1) (p .fits .2)) u))
+  on-P p = used-to (λ q x u. inl (stretch-of (PUses s n st pu) (p .fits .0) (digits-lt (p .fits .1) (p .fits .2)) u))
 
   on-Q : {t a b f g l y : ℕ} → Marked T m (Q t a b f g l) → Used (QUses s n po t (a * T .L + b)) m y → Used All m y
-  on-Q p = used-to (λ q x u. inr (row-of (QUses s n po) (p .fits .0) (digits-lt (p .fits .1) (p .fits .2)) u))
+  on-Q p = used-to (λ q x u. inr (stretch-of (QUses s n po) (p .fits .0) (digits-lt (p .fits .1) (p .fits .2)) u))
 
   on-frame : {t a b f g l y : ℕ} → Marked T m (Q t a b f g l) → Used (FrameUses s t (a * T .L + b) f) m y → Used All m y
   on-frame p u = on-Q p (used-to (λ q x v. inl (upto-at _ (p .fits .3) v)) u)
@@ -50,8 +50,8 @@ module _ {T : Table} (sound : Sound T) {n : RowCounts} {st pu po : List ℕ} (re
   yields-used f (push-P p r) = on-P p (used-inr (used-inl (push-used T m (n .pushes) pu _ _ (reads .pushes) _ (r .row) p .1)))
   yields-used f (pop-P p r) = on-Q p (used-inr (pop-used T m (n .pops) po _ _ (reads .pops) _ (r .row) p))
   yields-used f (call p c) = on-frame p (used-inl (call-used p c))
-  yields-used f (env-P p e ne) = on-P p (used-inr (used-inr (moved-used _ (P _ _ _) (pos-p-row T _ _ _) (p .fits .4) p e ne)))
-  yields-used f (env-Q p e ne) = on-frame p (used-inr (moved-used _ (Q _ _ _ _) (pos-q-row T _ _ _ _) (p .fits .5) p e ne))
+  yields-used f (env-P p e ne) = on-P p (used-inr (used-inr (moved-used _ (P _ _ _) (pos-p-stretch T _ _ _) (p .fits .4) p e ne)))
+  yields-used f (env-Q p e ne) = on-frame p (used-inr (moved-used _ (Q _ _ _ _) (pos-q-stretch T _ _ _ _) (p .fits .5) p e ne))
 
   -- ---- to uses of the rules, from marks at q and x
 
@@ -72,8 +72,8 @@ module _ {T : Table} (sound : Sound T) {n : RowCounts} {st pu po : List ℕ} (re
     of-Q (inr u) = pop-yields sound ah hx t (reads .pops) u
 
   pub used-yields : (q x y : ℕ) → All q x y → Has m q → Has m x → Yielded T m y
-  used-yields q x y (inl u) hq hx = of-P hq hx (row-thread (planned T sound) (u .lt)) _ (row-pair (planned T sound) (u .lt)) (u .given)
-  used-yields q x y (inr u) hq hx = of-Q hq hx (row-thread (planned T sound) (u .lt)) _ (row-pair (planned T sound) (u .lt)) (u .given)
+  used-yields q x y (inl u) hq hx = of-P hq hx (stretch-thread (planned T sound) (u .lt)) _ (stretch-pair (planned T sound) (u .lt)) (u .given)
+  used-yields q x y (inr u) hq hx = of-Q hq hx (stretch-thread (planned T sound) (u .lt)) _ (stretch-pair (planned T sound) (u .lt)) (u .given)
 
   -- what lacks at positions is what is missing by the rules
   pub lacks-yields : {y : ℕ} → Lacks All m y → Yielded T m y

@@ -1,5 +1,5 @@
--- Every use of rules 2 to 7, by a table's plan s (01, "The rules"). There are n * k rows of P facts, and as many of Q facts: row i is that of the
--- facts of thread i / k from pair i % k.
+-- Every use of rules 2 to 7, by a table's plan s (01, "The rules"). There are n * k stretches of P facts: stretch i is that of thread i / k
+-- from pair i % k. The stretches of Q facts, one for each frame, are counted likewise, those from one pair together.
 use mathlib.Core.List.{List}
 use Prim.Native.Nat.{ℕ, _+_, _*_, _/_, _%_}
 use Rattle.positions.specs.declared.plan.Plan.{Plan}
@@ -26,17 +26,18 @@ FrameUses s t a f = Either (Upto (CallUse s t (qFrom s t a + f * s .k)) (s .k)) 
 abbrev pub QUses : Plan → RowCounts → List ℕ → ℕ → ℕ → Uses
 QUses s n pops t a = Either (Upto (FrameUses s t a) (s .f)) (RowUses Pop s t a pops (n .pops))
 
--- on row i of either
-abbrev pub PRow : Plan → RowCounts → List ℕ → List ℕ → ℕ → Uses
-PRow s n steps pushes i = PUses s n steps pushes (i / s .k) (i % s .k)
+-- on stretch i of the P facts
+abbrev pub PStretch : Plan → RowCounts → List ℕ → List ℕ → ℕ → Uses
+PStretch s n steps pushes i = PUses s n steps pushes (i / s .k) (i % s .k)
 
-abbrev pub QRow : Plan → RowCounts → List ℕ → ℕ → Uses
-QRow s n pops i = QUses s n pops (i / s .k) (i % s .k)
+-- on the stretches of Q facts from one pair
+abbrev pub QStretches : Plan → RowCounts → List ℕ → ℕ → Uses
+QStretches s n pops i = QUses s n pops (i / s .k) (i % s .k)
 
--- on every row of Q facts
-abbrev pub QRows : Plan → RowCounts → List ℕ → Uses
-QRows s n pops = Upto (QRow s n pops) (s .n * s .k)
+-- on all Q facts
+abbrev pub AllQUses : Plan → RowCounts → List ℕ → Uses
+AllQUses s n pops = Upto (QStretches s n pops) (s .n * s .k)
 
 -- every use
 abbrev pub AllUses : Plan → RowCounts → List ℕ → List ℕ → List ℕ → Uses
-AllUses s n steps pushes pops = Either (Upto (PRow s n steps pushes) (s .n * s .k)) (QRows s n pops)
+AllUses s n steps pushes pops = Either (Upto (PStretch s n steps pushes) (s .n * s .k)) (AllQUses s n pops)

@@ -1,5 +1,5 @@
--- The uses of each rule at positions (01, "The rules"), by a table's plan s. Facts stand in rows: the P facts of a thread t from a pair a, and
--- the Q facts of t from a with a frame, each row with a place for every pair where a fact may end. So uses are told row by row.
+-- The uses of each rule at positions (01, "The rules"), by a table's plan s. Facts stand in stretches: the P facts of a thread t from a pair a,
+-- and the Q facts of t from a with a frame, each stretch with a place for every pair where a fact may end. So uses are told stretch by stretch.
 use mathlib.Core.Path.{_≡_}
 use mathlib.Core.List.{List}
 use Prim.Native.Nat.{ℕ, _+_, _*_}
@@ -76,13 +76,13 @@ RowUses kind s t a rows n = OfRows t (KindUse kind s t a) (rowOf rows) n
 
 -- ---- rule 6
 
--- the Q fact to pair b in the row of Q facts from y on, with the P facts from b
+-- the Q fact to pair b in the stretch of Q facts from y on, with the P facts from b
 abbrev pub CallUse : Plan → ℕ → ℕ → ℕ → Uses
 CallUse s t y b = With (y + b) (Upto (Line (pFrom s t b) y) (s .k))
 
 -- ---- rules 2 and 3
 
--- the G fact of e from g to g′, and the row of facts of t from x on, if the guarantee is another thread's
+-- the G fact of e from g to g′, and the stretch of facts of t from x on, if the guarantee is another thread's
 abbrev pub MovedUse : Plan → ℕ → ℕ → ℕ → ℕ → ℕ → Uses
 MovedUse s t x g g′ e = With (gAt s e g g′) (Under (e ≡ t → ⊥) (Upto (Line (x + g * s .l) (x + g′ * s .l)) (s .l)))
 

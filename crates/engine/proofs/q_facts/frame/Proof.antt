@@ -1,4 +1,4 @@
--- If the row of Q facts has no mark, nothing is done; else rule 6 and then rule 3.
+-- If the stretch of Q facts has no mark, nothing is done; else rule 6 and then rule 3.
 use mathlib.Core.Path.{_≡_, ap, subst}
 use Prim.Native.Nat.{_+_, _*_, _≤_}
 use native.Mathlib.Omega.{arith}
@@ -7,15 +7,15 @@ use borrow.Author.Tests.{not-true}
 use Rattle.store.specs.Marking.{SomeIn}
 use Rattle.positions.specs.Plans.{qFrom}
 use Rattle.store.proofs.MarkLaws.{is-false}
-use Rattle.positions.proofs.Places.{q-rows, q-row}
+use Rattle.positions.proofs.Places.{q-stretches, q-stretch}
 use Rattle.uses.specs.Uses.{Upto, Either}
 use Rattle.uses.specs.RuleUses.{CallUse, MovedFrom}
 use Rattle.uses.proofs.PassLaws.{swept-room, swept-of, and-then}
-use Rattle.engine.proofs.EmptyRows.{frame-empty}
+use Rattle.engine.proofs.EmptyStretches.{frame-empty}
 use Rattle.engine.proofs.q_facts.frame.Statement.{statement}
 use Rattle.engine.proofs.q_facts.frame.Tie as tie
 
--- where the row begins, and that it is in the memory
+-- where the stretch begins, and that it is in the memory
 module _ (c : tie.After-q-from) where
   abbrev start : tie.Start
   start = c .before .before
@@ -24,20 +24,20 @@ module _ (c : tie.After-q-from) where
       ≡ qFrom (start .args .s) (start .args .t) (start .args .a) + start .args .f * start .args .s .k
   y-is = ap (λ z. z + start .args .f * start .args .s .k) (c .q-from .ensures)
 
-  row : (c .q-from .result + start .args .f * start .args .s .k + start .args .s .k ≤ start .args .s .w) × (start .args .s .w ≤ 2360320)
-  row = let (h, t, a, f, room) = start .pre in (omega (arith, c .q-from .ensures, q-rows h t a, q-row h f), h .w-max)
+  stretch : (c .q-from .result + start .args .f * start .args .s .k + start .args .s .k ≤ start .args .s .w) × (start .args .s .w ≤ 2360320)
+  stretch = let (h, t, a, f, room) = start .pre in (omega (arith, c .q-from .ensures, q-stretches h t a, q-stretch h f), h .w-max)
 
 q-from-requires : tie.Need-q-from-requires
 q-from-requires c κs = search needs
 
 mul-y : tie.Need-mul-y
-mul-y c = omega (arith, row (c .before))
+mul-y c = omega (arith, stretch (c .before))
 
 add-y : tie.Need-add-y
-add-y c = omega (arith, row (c .before))
+add-y c = omega (arith, stretch (c .before))
 
 some-requires : tie.Need-some-requires
-some-requires c κs = let at = c .before .before in omega (arith, row at, start at .pre .4)
+some-requires c κs = let at = c .before .before in omega (arith, stretch at, start at .pre .4)
 
 same-length : tie.Need-same-length
 same-length c = search needs
@@ -54,14 +54,14 @@ calls-requires : tie.Need-calls-requires
 calls-requires c κs =
     let at = c .before .before .before .before .before in
     let (h, t, a, f, room) = start at .pre in
-    (h, t, row at .0, room)
+    (h, t, stretch at .0, room)
 
 guarantees-requires : tie.Need-guarantees-requires
 guarantees-requires c κs =
     let called = c .before .before .before in
     let at = called .before .before .before .before .before .before in
     let (h, t, a, f, room) = start at .pre in
-    (h, row at .0, omega (arith, swept-room (called .calls .ensures)))
+    (h, stretch at .0, omega (arith, swept-room (called .calls .ensures)))
 
 same-length-2 : tie.Need-same-length-2
 same-length-2 c = search needs

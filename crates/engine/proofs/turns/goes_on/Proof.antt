@@ -1,12 +1,12 @@
--- The rows are at most 1,024, so their number fits.
+-- The stretches are at most 1,024, so their number fits.
 use native.Mathlib.Omega.{arith}
 use borrow.Author.Needs.{needs}
-use Rattle.uses.proofs.RowNumbers.{rows-small}
+use Rattle.uses.proofs.StretchNumbers.{stretches-small}
 use Rattle.engine.proofs.turns.goes_on.Statement.{statement}
 use Rattle.engine.proofs.turns.goes_on.Tie as tie
 
 mul-result : tie.Need-mul-result
-mul-result c = omega (arith, rows-small (c .before .pre))
+mul-result c = omega (arith, stretches-small (c .before .pre))
 
 returns : tie.Need-returns
 returns c = search needs

@@ -1,7 +1,7 @@
 -- Rules 5 and 2, one after the other.
 use native.Mathlib.Omega.{arith}
 use borrow.Author.Needs.{needs}
-use Rattle.positions.proofs.Places.{p-row, parts}
+use Rattle.positions.proofs.Places.{p-stretch, parts}
 use Rattle.uses.specs.Uses.{Upto}
 use Rattle.uses.specs.RuleUses.{MovedFrom}
 use Rattle.uses.proofs.PassLaws.{swept-room, swept-of, and-then}
@@ -20,7 +20,7 @@ guarantees-requires c κs =
     let pushed = from .before .before .before in
     let (plan, pushes, t, a, room) = pushed .before .before .before .before .pre in (
       plan,
-      omega (arith, from .p-from .ensures, p-row plan t a, parts plan),
+      omega (arith, from .p-from .ensures, p-stretch plan t a, parts plan),
       omega (arith, swept-room (pushed .rows-of .ensures)),
     )
 

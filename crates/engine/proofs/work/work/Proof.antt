@@ -22,7 +22,7 @@ use Rattle.engine.specs.declared.turns.Turn.{Turn}
 use Rattle.engine.specs.InRange.{Given as Ready}
 use Rattle.uses.specs.AllUses.{AllUses}
 use Rattle.engine.specs.Working.{Worked}
-use Rattle.engine.specs.Turns.{rowsOf, turnsLeft, Turning, Stepped}
+use Rattle.engine.specs.Turns.{stretchCount, turnsLeft, Turning, Stepped}
 use Rattle.uses.proofs.PassLaws.{swept-room, swept-of}
 use Rattle.steps.proofs.ListLaws.{taken-length, taken-in, taken-swept}
 use Rattle.engine.proofs.Covering.{covered-room}
@@ -125,7 +125,7 @@ enough : {k : ℕ} (rows : List stored.Row) → k ≤ 1024 → length rows ≡ 1
 enough rows few long = omega arith
 
 module _ {s : Plan} {n : RowCounts} {st pu po : List ℕ} {put : Bool} {b : Pass} {m₀ : List ℕ} where
-  begins-so : Planned s → {turn : Turn} → turn ≡ record { row = 0; before = b .left; pass = b } → Turning s n st pu po put b turn m₀ m₀
+  begins-so : Planned s → {turn : Turn} → turn ≡ record { stretch = 0; before = b .left; pass = b } → Turning s n st pu po put b turn m₀ m₀
   begins-so plan e = subst (λ (x : Turn). Turning s n st pu po put b x m₀ m₀) (sym e) (first-turning s n st pu po plan put b m₀)
 
   module _ {turn : Turn} {m : List ℕ} (inv : Turning s n st pu po put b turn m₀ m) where
@@ -133,18 +133,18 @@ module _ {s : Plan} {n : RowCounts} {st pu po : List ℕ} {put : Bool} {b : Pass
     same-room = covered-room (inv .covered)
 
     -- the test of the loop
-    in-rows : {x : Bool} → x ≡ ltb (turn .row) (rowsOf s) → x ≡ true → turn .row < rowsOf s
-    in-rows e h = ltb-true (turn .row) (rowsOf s) (sym e ∙ h)
+    in-stretches : {x : Bool} → x ≡ ltb (turn .stretch) (stretchCount s) → x ≡ true → turn .stretch < stretchCount s
+    in-stretches e h = ltb-true (turn .stretch) (stretchCount s) (sym e ∙ h)
 
-    ends-so : {x : Bool} → x ≡ ltb (turn .row) (rowsOf s) → x ≡ false → {p : Pass} → p ≡ turn .pass
+    ends-so : {x : Bool} → x ≡ ltb (turn .stretch) (stretchCount s) → x ≡ false → {p : Pass} → p ≡ turn .pass
         → Worked (AllUses s n st pu po) put b p m₀ m
     ends-so e h c =
         subst (λ (p : Pass). Worked (AllUses s n st pu po) put b p m₀ m) (sym c)
-        (last-turning s n st pu po (ltb-false (turn .row) (rowsOf s) (sym e ∙ h)) inv)
+        (last-turning s n st pu po (ltb-false (turn .stretch) (stretchCount s) (sym e ∙ h)) inv)
 
     -- a turn: t and a are its thread and its pair, and the walker is lent the first n of the rows
-    module _ (ready : Ready s n st pu po × (s .w ≤ room m₀)) {t a : ℕ} (thread : (t ≡ turn .row / s .k) × (t < s .n))
-        (pair : (a ≡ turn .row % s .k) × (a < s .k)) {rows : List stored.Row} (listed : Unpacked st (n .steps) rows)
+    module _ (ready : Ready s n st pu po × (s .w ≤ room m₀)) {t a : ℕ} (thread : (t ≡ turn .stretch / s .k) × (t < s .n))
+        (pair : (a ≡ turn .stretch % s .k) × (a < s .k)) {rows : List stored.Row} (listed : Unpacked st (n .steps) rows)
         (long : n .steps ≤ length rows) where
       abbrev taken : List stored.Row
       taken = take (n .steps) rows
@@ -155,14 +155,14 @@ module _ {s : Plan} {n : RowCounts} {st pu po : List ℕ} {put : Bool} {b : Pass
 
       -- the walker carried p before, and q after
       module _ {p q : Pass} {m₁ : List ℕ} (did : Swept (StepUses s t a (nth taken) (length taken)) put p q m m₁) where
-        next-asks : turn .row < rowsOf s → Planned s × RowsIn s (s .l) (s .f) pu (n .pushes) × RowsIn s (s .f) (s .l) po (n .pops)
-            × (turn .row < rowsOf s) × (s .w ≤ room m₁)
+        next-asks : turn .stretch < stretchCount s → Planned s × RowsIn s (s .l) (s .f) pu (n .pushes) × RowsIn s (s .f) (s .l) po (n .pops)
+            × (turn .stretch < stretchCount s) × (s .w ≤ room m₁)
         next-asks here =
             (ready .0 .plan, ready .0 .pushes, ready .0 .pops, here, omega (arith, same-room, swept-room did, ready .1))
 
         stepped : p ≡ turn .pass → Stepped s n st put turn q m m₁
         stepped c =
-            swept-of (λ (x : ℕ). StepUses s x (turn .row % s .k) (rowAt st) (n .steps)) (thread .0)
+            swept-of (λ (x : ℕ). StepUses s x (turn .stretch % s .k) (rowAt st) (n .steps)) (thread .0)
             (swept-of (λ (x : ℕ). StepUses s t x (rowAt st) (n .steps)) (pair .0)
             (subst (λ (x : Pass). Swept (StepUses s t a (rowAt st) (n .steps)) put x q m m₁) c (taken-swept rows listed long s t a did)))
 
@@ -292,7 +292,7 @@ module _ {M : Type 1} (𝓤 : URA M) (H : Heap 𝓤) (A : Atoms 𝓤) (W : Given
                   λ κs′. ready .plan,
                   λ goes. (
                     λ yes.
-                        let here = in-rows inv (goes .5) yes in (
+                        let here = in-stretches inv (goes .5) yes in (
                           λ κs′. (ready .plan, here),
                           λ thread. (
                             λ κs′. (ready .plan, here),

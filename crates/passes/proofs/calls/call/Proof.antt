@@ -4,7 +4,7 @@ use native.Mathlib.Omega.{arith}
 use borrow.Author.Needs.{needs}
 use borrow.Author.Tests.{not-true, not-false}
 use Rattle.store.proofs.MarkLaws.{is-true, is-false}
-use Rattle.positions.proofs.Places.{p-row, parts}
+use Rattle.positions.proofs.Places.{p-stretch, parts}
 use Rattle.uses.proofs.PassLaws.{swept-with, swept-without, flat-line, line-at}
 use Rattle.passes.proofs.calls.call.Statement.{statement}
 use Rattle.passes.proofs.calls.call.Tie as tie
@@ -26,9 +26,9 @@ p-from-requires c κs = search needs
 
 line-requires : tie.Need-line-requires
 line-requires c κs =
-    let (h, t, b, row, room) = c .before .before .before .before .before .before .pre in
+    let (h, t, b, stretch, room) = c .before .before .before .before .before .before .pre in
     let in-w = parts h in
-    (omega (arith, p-row h t b, c .p-from .ensures), omega arith)
+    (omega (arith, p-stretch h t b, c .p-from .ensures), omega arith)
 
 same-length-2 : tie.Need-same-length-2
 same-length-2 c = search needs

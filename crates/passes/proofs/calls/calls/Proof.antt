@@ -25,8 +25,8 @@ loop-holds c = (omega arith, upto-none _)
 call-requires : tie.Need-call-requires Inv-loop μ-loop
 call-requires c κs =
     let at = c .before .before in
-    let (h, t, row, room) = start at .pre in
-    (h, t, c .before .loop-test .taken, row, omega (arith, swept-room (at .loop .inv .1)))
+    let (h, t, stretch, room) = start at .pre in
+    (h, t, c .before .loop-test .taken, stretch, omega (arith, swept-room (at .loop .inv .1)))
 
 add-b : tie.Need-add-b Inv-loop μ-loop
 add-b c = search needs

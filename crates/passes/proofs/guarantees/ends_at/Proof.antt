@@ -1,4 +1,4 @@
--- The facts that end at a shared store stand in a stretch of the row.
+-- The facts that end at a shared store stand side by side in their stretch.
 use Prim.Native.Nat.{_+_, _*_, _≤_}
 use native.Mathlib.Omega.{arith}
 use Rattle.positions.proofs.Places.{cut}
@@ -6,9 +6,9 @@ use Rattle.passes.proofs.GuaranteeLaws.{next-some}
 use Rattle.passes.proofs.guarantees.ends_at.Statement.{statement}
 use Rattle.passes.proofs.guarantees.ends_at.Tie as tie
 
--- the stretch is in the row
+-- they are in the stretch
 ends : (c : tie.Start) → let a = c .args in let s = a .s in (a .g * s .l + s .l ≤ s .k) × (s .k ≤ 256) × (s .w ≤ 2360320) × (a .x + s .k ≤ s .w)
-ends c = let (h, g, row, room) = c .pre in (cut h _ g, h .k-max, h .w-max, row)
+ends c = let (h, g, stretch, room) = c .pre in (cut h _ g, h .k-max, h .w-max, stretch)
 
 mul-first : tie.Need-mul-first
 mul-first c = omega (arith, ends (c .before .before))

@@ -9,10 +9,10 @@ use Rattle.passes.proofs.GuaranteeLaws.{moved-any, moved-nobody}
 use Rattle.passes.proofs.guarantees.guarantee.Statement.{statement}
 use Rattle.passes.proofs.guarantees.guarantee.Tie as tie
 
--- the two stretches of l facts are in the row
+-- the l facts that end at either shared store are in the stretch
 ends : (c : tie.Start) → let a = c .args in let s = a .s in
     (a .from * s .l + s .l ≤ s .k) × (a .to * s .l + s .l ≤ s .k) × (s .k ≤ 256) × (s .w ≤ 2360320)
-ends c = let (h, from, to, row, room) = c .pre in (cut h _ from, cut h _ to, h .k-max, h .w-max)
+ends c = let (h, from, to, stretch, room) = c .pre in (cut h _ from, cut h _ to, h .k-max, h .w-max)
 
 one-acts-requires : tie.Need-one-acts-requires
 one-acts-requires c κs = search needs
@@ -41,7 +41,7 @@ add-line-2 c = omega (arith, ends (c .before .before .before .before .before))
 line-requires : tie.Need-line-requires
 line-requires c κs =
     let start = c .before .before .before .before .before in
-    let (h, from, to, row, room) = start .pre in
+    let (h, from, to, stretch, room) = start .pre in
     let e = ends start in
     (omega arith, omega arith)
 

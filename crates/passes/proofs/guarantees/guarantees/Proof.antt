@@ -25,8 +25,8 @@ loop-holds c = (omega arith, upto-none _)
 guarantees-from-requires : tie.Need-guarantees-from-requires Inv-loop μ-loop
 guarantees-from-requires c κs =
     let at = c .before .before in
-    let (h, row, room) = start at .pre in
-    (h, c .before .loop-test .taken, row, omega (arith, swept-room (at .loop .inv .1)))
+    let (h, stretch, room) = start at .pre in
+    (h, c .before .loop-test .taken, stretch, omega (arith, swept-room (at .loop .inv .1)))
 
 add-from : tie.Need-add-from Inv-loop μ-loop
 add-from c = search needs

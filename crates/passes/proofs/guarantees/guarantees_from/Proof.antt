@@ -1,4 +1,4 @@
--- The guarantees to the first shared stores are done. Where no fact of the row ends at their first shared store, nothing lacks.
+-- The guarantees to the first shared stores are done. Where no fact of the stretch ends at their first shared store, nothing lacks.
 use mathlib.Core.Path.{_≡_}
 use Prim.Native.Nat.{_≤_, _-_}
 use native.Mathlib.Omega.{arith}
@@ -40,8 +40,8 @@ loop-holds c = (omega arith, upto-none _)
 guarantee-requires : tie.Need-guarantee-requires Inv-loop μ-loop
 guarantee-requires c κs =
     let at = c .before .before in
-    let (h, from, row, room) = start at .pre in
-    (h, from, c .before .loop-test .taken, row, omega (arith, swept-room (at .loop .inv .1)))
+    let (h, from, stretch, room) = start at .pre in
+    (h, from, c .before .loop-test .taken, stretch, omega (arith, swept-room (at .loop .inv .1)))
 
 add-to : tie.Need-add-to Inv-loop μ-loop
 add-to c = search needs

@@ -2,13 +2,13 @@
 use Prim.Native.Nat.{_+_, _*_, _≤_}
 use native.Mathlib.Omega.{arith}
 use borrow.Author.Needs.{needs}
-use Rattle.positions.proofs.Places.{row-small, parts}
+use Rattle.positions.proofs.Places.{stretch-small, parts}
 use Rattle.positions.proofs.plan.p_from.Statement.{statement}
 use Rattle.positions.proofs.plan.p_from.Tie as tie
 
 sizes : (c : tie.Start) → let s = c .args .s in (c .args .t * s .k ≤ 1024) × ((c .args .t * s .k + c .args .a) * s .k ≤ 327680) × (s .p ≤ s .w)
 sizes c =
-    let r = row-small (c .pre .0) (c .pre .1) (c .pre .2) in
+    let r = stretch-small (c .pre .0) (c .pre .1) (c .pre .2) in
     (r .0, r .1, omega (arith, parts (c .pre .0)))
 
 mul-result : tie.Need-mul-result

@@ -1,4 +1,4 @@
--- The row stands below w, and the fact in it.
+-- The stretch stands below w, and the fact in it.
 use mathlib.Core.Path.{ap}
 use Prim.Native.Nat.{_+_, _≤_, _<_}
 use native.Mathlib.Omega.{arith}

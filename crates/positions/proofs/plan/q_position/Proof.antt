@@ -1,4 +1,4 @@
--- The rows stand below w, and the fact in its row.
+-- The stretches stand below w, and the fact in its own.
 use mathlib.Core.Path.{ap}
 use Prim.Native.Nat.{_+_, _*_, _≤_, _<_}
 use native.Mathlib.Omega.{arith}

@@ -1,15 +1,15 @@
--- If the row has no mark, nothing is done; else rules 6 and 3 for each frame, and then rule 7.
+-- If the stretches have no mark, nothing is done; else rules 6 and 3 for each frame, and then rule 7.
 use native.Mathlib.Omega.{arith}
 use borrow.Author.Needs.{needs}
 use borrow.Author.Tests.{not-true}
 use Rattle.store.proofs.MarkLaws.{is-false}
 use Rattle.uses.proofs.PassLaws.{swept-room, and-then}
-use Rattle.uses.proofs.RowNumbers.{k-pos, frames-small, row-thread, row-pair, q-room}
-use Rattle.engine.proofs.EmptyRows.{q-row-empty}
-use Rattle.engine.proofs.q_facts.q_row.Statement.{statement}
-use Rattle.engine.proofs.q_facts.q_row.Tie as tie
+use Rattle.uses.proofs.StretchNumbers.{k-pos, frames-small, stretch-thread, stretch-pair, q-room}
+use Rattle.engine.proofs.EmptyStretches.{q-stretches-empty}
+use Rattle.engine.proofs.q_facts.q_stretches.Statement.{statement}
+use Rattle.engine.proofs.q_facts.q_stretches.Tie as tie
 
--- where the row is looked at
+-- where the stretches are looked at
 abbrev start : tie.After-struct-known2 → tie.Start
 start c = c .before .before .before .before .before
 
@@ -32,7 +32,7 @@ returns : tie.Need-returns
 returns c =
     let at = c .before in
     let (plan, pops, i, room) = start (at .before) .pre in
-    q-row-empty (start (at .before) .args .mem .now) plan (start (at .before) .args .counts) pops i _
+    q-stretches-empty (start (at .before) .args .mem .now) plan (start (at .before) .args .counts) pops i _
     (is-false _ (at .some .ensures) (not-true (at .some .result) (c .if1 .taken)))
 
 div-t : tie.Need-div-t
@@ -44,13 +44,13 @@ rem-a c = let (plan, pops, i, room) = start (c .before .before .before .before) 
 frames-requires : tie.Need-frames-requires
 frames-requires c κs =
     let (plan, pops, i, room) = start (c .before .before .before .before .before) .pre in
-    (plan, row-thread plan i, row-pair plan i, room)
+    (plan, stretch-thread plan i, stretch-pair plan i, room)
 
 rows-of-requires : tie.Need-rows-of-requires
 rows-of-requires c κs =
     let framed = c .before .before .before in
     let (plan, pops, i, room) = start (framed .before .before .before .before .before .before) .pre in
-    (plan, row-thread plan i, row-pair plan i, pops, omega (arith, swept-room (framed .frames .ensures)))
+    (plan, stretch-thread plan i, stretch-pair plan i, pops, omega (arith, swept-room (framed .frames .ensures)))
 
 same-length-2 : tie.Need-same-length-2
 same-length-2 c = search needs
@@ -61,8 +61,8 @@ returns-2 c =
     let framed = last .before .before .before .before in
     and-then (framed .frames .ensures) (last .rows-of .ensures)
 
-pub q-row-spec : {M : Type 1} → statement M
-q-row-spec =
+pub q-stretches-spec : {M : Type 1} → statement M
+q-stretches-spec =
     tie.close
     (tie.spec
     mul-n

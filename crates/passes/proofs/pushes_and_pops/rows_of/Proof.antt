@@ -6,8 +6,8 @@ use borrow.Author.Needs.{needs}
 use Rattle.uses.specs.Passing.{Swept}
 use Rattle.uses.specs.RuleUses.{KindIn, RowUse, RowUses}
 use Rattle.uses.proofs.PassLaws.{swept-room, swept-of, upto-none, upto-next}
-use Rattle.passes.proofs.row_rules.rows_of.Statement.{statement}
-use Rattle.passes.proofs.row_rules.rows_of.Tie as tie
+use Rattle.passes.proofs.pushes_and_pops.rows_of.Statement.{statement}
+use Rattle.passes.proofs.pushes_and_pops.rows_of.Tie as tie
 
 abbrev Inv-loop : tie.InvT-loop
 Inv-loop kind s t a rows n mem₀ put sofar₀ i₀ mem sofar i = (i ≤ n) × Swept (RowUses kind s t a rows i) put sofar₀ sofar mem₀ mem

@@ -4,8 +4,8 @@ use borrow.Author.Needs.{needs}
 use Rattle.uses.specs.declared.kinds.Kind.{Kind}
 use Rattle.uses.specs.RuleUses.{KindIn, KindUse}
 use Rattle.uses.proofs.PassLaws.{swept-of, swept-under, swept-never}
-use Rattle.passes.proofs.row_rules.row.Statement.{statement}
-use Rattle.passes.proofs.row_rules.row.Tie as tie
+use Rattle.passes.proofs.pushes_and_pops.row.Statement.{statement}
+use Rattle.passes.proofs.pushes_and_pops.row.Tie as tie
 
 cast-if1 : tie.Need-cast-if1
 cast-if1 c = search needs

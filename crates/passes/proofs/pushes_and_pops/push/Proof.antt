@@ -8,8 +8,8 @@ use Rattle.store.specs.declared.rows.Row.{Row}
 use Rattle.positions.specs.Plans.{pair, pFrom, qFrom}
 use Rattle.uses.specs.RuleUses.{placeOf}
 use Rattle.uses.proofs.PassLaws.{swept-room, and-then, one-at}
-use Rattle.passes.proofs.row_rules.push.Statement.{statement}
-use Rattle.passes.proofs.row_rules.push.Tie as tie
+use Rattle.passes.proofs.pushes_and_pops.push.Statement.{statement}
+use Rattle.passes.proofs.pushes_and_pops.push.Tie as tie
 
 -- once the row's numbers are read
 abbrev begun : tie.After-struct-known4 → tie.Start

@@ -7,8 +7,8 @@ use Rattle.positions.specs.declared.plan.Plan.{Plan}
 use Rattle.store.specs.declared.rows.Row.{Row}
 use Rattle.positions.specs.Plans.{pair, pFrom, qFrom}
 use Rattle.uses.proofs.PassLaws.{one-at}
-use Rattle.passes.proofs.row_rules.pop.Statement.{statement}
-use Rattle.passes.proofs.row_rules.pop.Tie as tie
+use Rattle.passes.proofs.pushes_and_pops.pop.Statement.{statement}
+use Rattle.passes.proofs.pushes_and_pops.pop.Tie as tie
 
 -- once the row's numbers are read
 abbrev begun : tie.After-struct-known4 → tie.Start
@@ -25,7 +25,7 @@ module _ (c : tie.After-one-arg) where
   abbrev r : Row
   r = start .args .r
 
-  -- the rows of facts of both ends
+  -- the stretches of both ends
   abbrev from : ℕ
   from = qFrom s (start .args .t) (start .args .a) + r .u * s .k
 
