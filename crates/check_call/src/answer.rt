@@ -8,7 +8,7 @@ use verdict::search::Verdict;
 pub enum Answer {
     // It is done: how many facts there are, and the verdict.
     Done { count: usize, verdict: Verdict },
-    // The table is refused.
+    // The table's file is refused for its first fault.
     Refused { refusal: Refusal },
     // The working memory is shorter than W.
     Short { w: usize },

@@ -49,7 +49,6 @@ const RECURSION: [u8; 29] = *b"\x01\x01\x02\x02\x01\x00\x00\x00\
     \x01\x00\x01\x01\x00\x01\
     \x01\x02\x01";
 
-// Checks the recursion table.
 fn run_recursion(bytes: usize, budget: usize) {
     run(&RECURSION, bytes, budget);
 }
@@ -139,7 +138,6 @@ fn watch(table: &[u8], bytes: usize, budget: usize, from: usize) {
     io::write_all(STDOUT_FILENO, b"\n");
 }
 
-// Watches a check of the recursion table.
 fn watch_recursion(bytes: usize, budget: usize, from: usize) {
     watch(&RECURSION, bytes, budget, from);
 }

@@ -351,7 +351,6 @@ fn order() {
     check(&table, 36, &fault, 36);
 }
 
-// Writes the recursion table's claim.
 fn write_recursion(bytes: usize, budget: usize, size: usize) {
     write(&RECURSION, 36, bytes, budget, size);
 }

@@ -10,11 +10,11 @@ use numbers::refusals::Refusal;
 pub enum ClaimAnswer {
     // The claim is accepted: how many facts it claims.
     Accepted { count: usize },
-    // The table is refused.
+    // The table's file is refused for its first fault.
     TableRefused { refusal: Refusal },
     // The working memory is shorter than W.
     Short { w: usize },
-    // The claim is refused for its layout.
+    // The claim's file is refused for its first fault.
     ClaimRefused { refusal: Refusal },
     // The smallest thread whose start fact the claim lacks.
     LacksStart { thread: usize },

@@ -14,7 +14,7 @@ ghost use Rattle.claim_reader.specs.Stages.{positionBytes};
 ghost use Rattle.claim_of_marks.specs.Stages.{totalsOf};
 use store::marks::next_mark;
 
-// The version of a claim.
+// The number that every claim begins with.
 const VERSION: usize = 1;
 
 // How many positions a claim has, and how many bytes they take.

@@ -15,7 +15,7 @@ pub enum WriteAnswer {
         verdict: Verdict,
         bytes: usize,
     },
-    // The table is refused.
+    // The table's file is refused for its first fault.
     Refused {
         refusal: Refusal,
     },

@@ -1,5 +1,5 @@
 -- What we owe: the three demands of document 00, of the calls' own contracts. Open this file first.
---     Checked       what the check promises (rules/specs/Checking.antt)
+--     Checked       what the check promises (check_call/specs/Checking.antt)
 --     ClaimChecked  what the claim check promises (claim_check_call/specs/ClaimChecking.antt)
 --     ClaimWritten  what claim writing promises (claim_write_call/specs/ClaimWriting.antt)
 -- and of the demands' own words (claims/specs/Owed.antt).

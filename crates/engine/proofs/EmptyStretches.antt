@@ -1,4 +1,5 @@
--- A stretch of facts with no mark gives nothing: each use on it has a premise in it. Nor do the stretches of Q facts from one pair with no mark.
+-- A stretch of facts with no mark gives nothing: each use on it has a premise in it. The same holds of the stretches of Q facts
+-- of a thread from one pair, taken together.
 use mathlib.Core.Path.{_≡_, refl, sym, ap, subst}
 use mathlib.Core.Bool.{Bool}
 use mathlib.Core.Logic.{inl, inr}
@@ -22,8 +23,7 @@ use Rattle.uses.proofs.StretchNumbers.{p-begins, q-begins}
 module _ (m : List ℕ) where
   -- stretch i of the P facts
   pub p-stretch-some : {s : Plan} {n : RowCounts} {st pu po : List ℕ} → Given s n st pu po → {i q z y : ℕ} → i < s .n * s .k
-      → PStretch s n st pu i q z y
-      → Has m q → Has m z → SomeIn m (s .p + i * s .k) (s .k)
+      → PStretch s n st pu i q z y → Has m q → Has m z → SomeIn m (s .p + i * s .k) (s .k)
   p-stretch-some {s} {n} {st} {pu} given {i} {q} {z} {y} l u hq hz = subst (λ x. SomeIn m x (s .k)) (p-begins (given .plan) l) (some-in u)
     where
       some-in : PStretch s n st pu i q z y → SomeIn m (pFrom s (i / s .k) (i % s .k)) (s .k)

@@ -16,7 +16,7 @@ use store::rows::RowCounts;
 use uses::kinds::Kind;
 use uses::lines::Pass;
 
-// The Q facts of t from pair a with frame f, but for rule 7.
+// Rules 6 and 3 on the stretch of Q facts of t from pair a with frame f.
 fn frame(s: Plan, t: usize, a: usize, f: usize, mem: &mut [u8], put: bool, pass: Pass) -> Pass
     requires { ⌜ Planned s × (t < s .n) × (a < s .k) × (f < s .f) × (s .w ≤ room (now mem)) ⌝ }
     ensures { λ r. ⌜ Swept (FrameUses s t a f) put pass r (now (mem .entry)) (now (mem .exit)) ⌝ }
@@ -29,7 +29,7 @@ fn frame(s: Plan, t: usize, a: usize, f: usize, mem: &mut [u8], put: bool, pass:
     guarantees(s, t, y, mem, put, called)
 }
 
-// The Q facts of t from pair a with each frame, but for rule 7.
+// Rules 6 and 3 on the stretches of Q facts of t from pair a, one for each frame.
 fn frames(s: Plan, t: usize, a: usize, mem: &mut [u8], put: bool, pass: Pass) -> Pass
     requires { ⌜ Planned s × (t < s .n) × (a < s .k) × (s .w ≤ room (now mem)) ⌝ }
     ensures { λ r. ⌜ Swept (Upto (FrameUses s t a) (s .f)) put pass r (now (mem .entry)) (now (mem .exit)) ⌝ }
@@ -44,7 +44,8 @@ fn frames(s: Plan, t: usize, a: usize, mem: &mut [u8], put: bool, pass: Pass) ->
     sofar
 }
 
-// The stretches of Q facts of one thread from one pair, that of stretch i of the P facts. Where none has a mark, they are passed over together.
+// Rules 6, 3 and 7 on the stretches of Q facts that have the thread and the pair of stretch i of the P facts. Where none of them has a mark, they
+// are passed over together.
 fn q_stretches(
     s: Plan,
     counts: RowCounts,
@@ -67,7 +68,7 @@ fn q_stretches(
     rows_of(Kind::Pop, s, t, a, pops, counts.pops, mem, put, framed)
 }
 
-// All Q facts. A table without frames has none.
+// Rules 6, 3 and 7 on all Q facts. A table without frames has none.
 pub fn q_facts(
     s: Plan,
     counts: RowCounts,

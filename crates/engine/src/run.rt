@@ -36,7 +36,7 @@ pub fn start_at(s: Plan, g: usize, locals: &[u8], t: usize) -> usize
     p + c * k
 }
 
-// Rule 1.
+// Rule 1: a mark for each thread's start fact.
 fn start(s: Plan, g: usize, locals: &[u8], mem: &mut [u8])
     requires { ⌜ Planned s × StartIn s g (now locals) × (s .w ≤ room (now mem)) ⌝ }
     ensures { λ _. ⌜ now (mem .exit) ≡ begun s g (now (locals .entry)) (s .n) (now (mem .entry)) ⌝ }
@@ -73,6 +73,8 @@ pub fn run(
         clear(mem);
         return Answer::Over;
     }
+    // One more than the budget has left after the start facts. It comes to 0 exactly if a mark is to be put that the budget does not have: then the
+    // answer is Over.
     let left = budget - started;
     let pass = Pass {
         best: s.w,

@@ -31,7 +31,7 @@ pub struct Turn {
     pub pass: Pass,
 }
 
-// The first turn.
+// The turn that the work begins with: the first stretch, in a round that put nothing yet.
 pub fn first_turn(pass: Pass) -> Turn
     ensures { λ r. ⌜ r ≡ record { stretch = 0; before = pass .left; pass = pass } ⌝ }
 {
@@ -43,7 +43,7 @@ pub fn first_turn(pass: Pass) -> Turn
     }
 }
 
-// Whether there is a turn.
+// Whether the work goes on. It ends with a turn past the last stretch.
 pub fn goes_on(s: Plan, turn: Turn) -> bool
     requires { ⌜ Planned s ⌝ }
     ensures { λ r. ⌜ r ≡ ltb (turn .stretch) (stretchCount s) ⌝ }
@@ -67,7 +67,7 @@ pub fn pair_from(s: Plan, turn: Turn) -> usize
     turn.stretch % s.k
 }
 
-// What the work carries.
+// What the work carries at a turn, and hands on to the walker.
 pub fn pass_of(turn: Turn) -> Pass
     ensures { λ r. ⌜ r ≡ turn .pass ⌝ }
 {
@@ -110,7 +110,7 @@ fn p_rest(
     guarantees(s, t, p_from(s, t, a), mem, put, pushed)
 }
 
-// How many marks for each stretch of P facts are many.
+// A round put many marks if it put more than so many for each stretch of P facts.
 const MANY: usize = 16;
 
 // Whether a round put more marks than so many: how many could be put before it, and how many can be put after it.

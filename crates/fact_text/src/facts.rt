@@ -82,7 +82,7 @@ fn q_fact(s: Plan, i: usize) -> FactFields
     FactFields::Q { t, g, l, f, g2, l2 }
 }
 
-// The fact at position p.
+// The fact at position p, by the part of the positions that p is in: first the G facts, then the P facts, then the Q facts.
 pub fn fact_at(s: Plan, p: usize) -> FactFields
     requires { ⌜ Planned s × (p < s .w) ⌝ }
     ensures { λ r. ⌜ r ≡ fieldsOf (planFact s p) ⌝ }

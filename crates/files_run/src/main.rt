@@ -103,7 +103,7 @@ fn put_memories(
     put_bytes(memory, ERRORS, errors);
 }
 
-// Runs the table reader on a file.
+// What the table reader gives for a file, with the four memories as it leaves them.
 fn read(file: &[u8], memory: &mut Room) -> TableRead {
     let mut steps = [FILL; STEP_BYTES];
     let mut pushes = [FILL; PUSH_BYTES];
@@ -114,7 +114,7 @@ fn read(file: &[u8], memory: &mut Room) -> TableRead {
     read
 }
 
-// The row at `at`.
+// The five cells of a row, after a bar.
 fn write_row(memory: &[u8], at: usize)
     requires { ⌜ at + 5 ≤ length (now memory) ⌝ }
 {
@@ -137,7 +137,7 @@ fn write_list(name: &[u8], count: usize, memory: &Room, at: usize)
     }
 }
 
-// The four lists.
+// The four lists in file order.
 fn write_lists(counts: Counts, memory: &Room) {
     write_list(b", steps ", counts.steps, memory, STEPS);
     write_list(b", pushes ", counts.pushes, memory, PUSHES);
@@ -174,7 +174,7 @@ fn checksum(memory: &Room) -> usize {
     sum
 }
 
-// The four sizes.
+// The four sizes in file order.
 fn write_sizes(sizes: Sizes) {
     cell(sizes.threads);
     cell(sizes.shared);
@@ -330,7 +330,7 @@ fn put_training(file: &mut Room) {
     put_bytes(file, 0, &table);
 }
 
-// Its first n bytes.
+// What comes back for the first n bytes of the training table.
 fn training_first(n: usize) {
     let mut file = [0; 8192];
     put_training(&mut file);
@@ -338,7 +338,7 @@ fn training_first(n: usize) {
     show(&file, n);
 }
 
-// One byte changed.
+// What comes back for the training table with one byte changed.
 fn training_with(at: usize, byte: u8) {
     let mut file = [0; 8192];
     put_training(&mut file);

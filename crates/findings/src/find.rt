@@ -23,7 +23,7 @@ use store::rows::RowCounts;
 use verdict::search::Verdict;
 use verdict::search::judge;
 
-// What is found.
+// The first of 9, 10 and 11 that there is, each with its value; or that there is none.
 pub enum Finding {
     // The facts are a closed set with the start facts, and allow no error.
     Accepted,

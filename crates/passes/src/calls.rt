@@ -23,7 +23,7 @@ fn call(s: Plan, t: usize, y: usize, b: usize, mem: &mut [u8], put: bool, pass: 
     line(mem, put, pass, p_from(s, t, b), y, s.k)
 }
 
-// Rule 6.
+// Rule 6 for each Q fact of the stretch.
 pub fn calls(s: Plan, t: usize, y: usize, mem: &mut [u8], put: bool, pass: Pass) -> Pass
     requires { ⌜ Planned s × (t < s .n) × (y + s .k ≤ s .w) × (s .w ≤ room (now mem)) ⌝ }
     ensures { λ r. ⌜ Swept (Upto (CallUse s t y) (s .k)) put pass r (now (mem .entry)) (now (mem .exit)) ⌝ }

@@ -99,7 +99,7 @@ fn guarantees_from(
     sofar
 }
 
-// Rule 2 or 3.
+// Rule 2 or 3 for the guarantees from each shared store: rule 2 if the stretch is one of P facts, else rule 3.
 pub fn guarantees(s: Plan, t: usize, x: usize, mem: &mut [u8], put: bool, pass: Pass) -> Pass
     requires { ⌜ Planned s × (x + s .k ≤ s .w) × (s .w ≤ room (now mem)) ⌝ }
     ensures { λ r. ⌜ Swept (Upto (MovedFrom s t x) (s .g)) put pass r (now (mem .entry)) (now (mem .exit)) ⌝ }

@@ -15,7 +15,7 @@ use uses::kinds::Kind;
 use uses::lines::Pass;
 use uses::lines::one;
 
-// Rule 5 for one row.
+// Rule 5 for one row: the P fact that ends at its place gives the Q fact of the call and the P fact of the callee's start.
 fn push(s: Plan, t: usize, a: usize, r: Row, mem: &mut [u8], put: bool, pass: Pass) -> Pass
     requires { ⌜ Planned s × (t < s .n) × (a < s .k) × RowIn s (s .l) (s .f) r × (s .w ≤ room (now mem)) ⌝ }
     ensures { λ b. ⌜ Swept (PushUse s t a r) put pass b (now (mem .entry)) (now (mem .exit)) ⌝ }
@@ -32,7 +32,7 @@ fn push(s: Plan, t: usize, a: usize, r: Row, mem: &mut [u8], put: bool, pass: Pa
     one(mem, put, pushed, x, z)
 }
 
-// Rule 7 for one row.
+// Rule 7 for one row: the Q fact with its frame that ends at its place gives the P fact after the return.
 fn pop(s: Plan, t: usize, a: usize, r: Row, mem: &mut [u8], put: bool, pass: Pass) -> Pass
     requires { ⌜ Planned s × (t < s .n) × (a < s .k) × RowIn s (s .f) (s .l) r × (s .w ≤ room (now mem)) ⌝ }
     ensures { λ b. ⌜ Swept (PopUse s t a r) put pass b (now (mem .entry)) (now (mem .exit)) ⌝ }

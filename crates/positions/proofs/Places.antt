@@ -88,7 +88,7 @@ called {s} {i} h l =
     let fp = right-pos (s .n * s .k) (s .f) r in
     record { k-pos = kp; f-pos = fp; stretch = r; t = div-lt-iff-lt-mul kp .1 (div-lt-iff-lt-mul fp .1 r); c = mod-lt i kp }
 
--- the sizes are small
+-- each product of the sizes on the way to w is small
 pub record Small (n g l f : ℕ) : Type 0 where
   pub k : g * l ≤ 256
   pub ng : n * g ≤ 64

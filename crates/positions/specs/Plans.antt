@@ -21,7 +21,7 @@ pub record Planned (s : Plan) : Type 0 where
   pub k-max : s .k ≤ 256
   pub w-max : s .w ≤ mostFacts
 
--- the pair of g and l
+-- g and l as one number below k
 abbrev pub pair : Plan → ℕ → ℕ → ℕ
 pair s g l = g * s .l + l
 

@@ -16,7 +16,7 @@ use store::rows::Row;
 use uses::lines::Pass;
 use uses::lines::one;
 
-// Rule 4 for one row.
+// Rule 4 for one row: the P fact that ends at its place gives the P fact to where it leads, and its guarantee.
 fn step(s: Plan, t: usize, a: usize, r: Row, mem: &mut [u8], put: bool, pass: Pass) -> Pass
     requires { ⌜ Planned s × (t < s .n) × (a < s .k) × RowIn s (s .g) (s .l) r × (s .w ≤ room (now mem)) ⌝ }
     ensures { λ b. ⌜ Swept (StepUse s t a r) put pass b (now (mem .entry)) (now (mem .exit)) ⌝ }

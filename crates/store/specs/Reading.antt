@@ -8,7 +8,7 @@ use Rattle.files.specs.Table.{Table, Step, Push, Pop}
 use Rattle.store.specs.declared.rows.Row.{Row}
 use Rattle.store.specs.declared.rows.RowCounts.{RowCounts}
 
--- row i of a list of bytes
+-- row i of a list of bytes: the five from 5 * i on
 abbrev pub rowOf : List ℕ → ℕ → Row
 rowOf rows i =
     record {
@@ -19,7 +19,7 @@ rowOf rows i =
       v = getD rows (i * 5 + 4) 0;
     }
 
--- a row of zeros
+-- what stands where there is no row
 abbrev pub zeroRow : Row
 zeroRow = record { t = 0; g = 0; l = 0; u = 0; v = 0 }
 

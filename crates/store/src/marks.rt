@@ -59,7 +59,7 @@ pub fn next_mark(mem: &[u8], from: usize, w: usize) -> usize
     w
 }
 
-// Puts a mark at p.
+// Puts a mark at p. Every other byte is as it was.
 pub fn put_mark(mem: &mut [u8], p: usize)
     requires { ⌜ p < room (now mem) ⌝ }
     ensures { λ _. ⌜ now (mem .exit) ≡ marked (now (mem .entry)) p ⌝ }
@@ -67,7 +67,7 @@ pub fn put_mark(mem: &mut [u8], p: usize)
     mem[p] = 1;
 }
 
-// Takes every mark off.
+// Takes every mark off: each byte is 0 then, whatever it was.
 pub fn clear(mem: &mut [u8])
     ensures { λ _. ⌜ now (mem .exit) ≡ replicate (length (now (mem .entry))) 0 ⌝ }
 {

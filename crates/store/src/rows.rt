@@ -28,7 +28,7 @@ fn wide(x: u8) -> usize
     x as usize
 }
 
-// The cell at i.
+// The byte at i of lent rows, as a number that positions are worked out with.
 pub fn cell(rows: &[u8], i: usize) -> usize
     requires { ⌜ i < length (now rows) ⌝ }
     ensures { λ r. ⌜ r ≡ getD (now (rows .entry)) i 0 ⌝ }
@@ -36,7 +36,7 @@ pub fn cell(rows: &[u8], i: usize) -> usize
     wide(rows[i])
 }
 
-// Row i.
+// Row i of lent rows: the five bytes from 5 * i on.
 pub fn row_at(rows: &[u8], i: usize) -> Row
     requires { ⌜ i * 5 + 4 < length (now rows) ⌝ }
     ensures { λ r. ⌜ r ≡ rowOf (now (rows .entry)) i ⌝ }

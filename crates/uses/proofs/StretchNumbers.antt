@@ -1,5 +1,5 @@
 -- Stretch i of the P facts is that of thread i / k from pair i % k, and the one of t from pair a is stretch t * k + a. The stretches of Q facts
--- from one pair are counted likewise, together.
+-- of a thread from one pair are counted together, in the same order.
 use mathlib.Core.Path.{_≡_, ap, sym, subst}
 use Prim.Native.Nat.{ℕ, _+_, _*_, _/_, _%_, _<_, _≤_}
 use native.Mathlib.Nat.{mod-lt, mul-le-mul, div-lt-iff-lt-mul, div-add-mod'}

@@ -1,5 +1,5 @@
 -- Every use of rules 2 to 7, by a table's plan s (01, "The rules"). There are n * k stretches of P facts: stretch i is that of thread i / k
--- from pair i % k. The stretches of Q facts, one for each frame, are counted likewise, those from one pair together.
+-- from pair i % k. The stretches of Q facts of a thread from one pair, one for each frame, are counted together, in the same order.
 use mathlib.Core.List.{List}
 use Prim.Native.Nat.{ℕ, _+_, _*_, _/_, _%_}
 use Rattle.positions.specs.declared.plan.Plan.{Plan}
@@ -38,6 +38,6 @@ QStretches s n pops i = QUses s n pops (i / s .k) (i % s .k)
 abbrev pub AllQUses : Plan → RowCounts → List ℕ → Uses
 AllQUses s n pops = Upto (QStretches s n pops) (s .n * s .k)
 
--- every use
+-- on all P facts and on all Q facts
 abbrev pub AllUses : Plan → RowCounts → List ℕ → List ℕ → List ℕ → Uses
 AllUses s n steps pushes pops = Either (Upto (PStretch s n steps pushes) (s .n * s .k)) (AllQUses s n pops)

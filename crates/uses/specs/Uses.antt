@@ -5,7 +5,7 @@ use mathlib.Core.List.{List}
 use Prim.Native.Nat.{ℕ, _+_, _<_}
 use Rattle.store.specs.Marking.{Has}
 
--- a set of uses
+-- a set of uses, by which q and x give which y
 abbrev pub Uses : Type 1
 Uses = ℕ → ℕ → ℕ → Type 0
 

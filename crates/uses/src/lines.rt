@@ -14,7 +14,7 @@ pub struct Pass {
     pub left: usize,
 }
 
-// One use.
+// One use: where x has a mark and y has none, a pass that puts marks y, and one that looks remembers y if it is the smallest so far.
 pub fn one(mem: &mut [u8], put: bool, pass: Pass, x: usize, y: usize) -> Pass
     requires { ⌜ (x < room (now mem)) × (y < room (now mem)) ⌝ }
     ensures { λ r. ⌜ Swept (Single x y) put pass r (now (mem .entry)) (now (mem .exit)) ⌝ }
@@ -32,6 +32,7 @@ pub fn one(mem: &mut [u8], put: bool, pass: Pass, x: usize, y: usize) -> Pass
     }
     if put {
         put_mark(mem, y);
+        // Each mark that is put is taken off: none is left exactly if one was put that the budget does not have, and then the answer is "over".
         let rest = left - 1;
         return Pass {
             best: best,

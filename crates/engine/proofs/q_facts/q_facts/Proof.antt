@@ -1,4 +1,4 @@
--- Without frames nothing is done. Else those of the first i pairs are done, thread by thread.
+-- Without frames nothing is done. Else the stretches that are counted before i are done.
 use mathlib.Core.Path.{_≡_}
 use Prim.Native.Nat.{_*_, _≤_, _-_}
 use native.Mathlib.Omega.{arith}

@@ -1,4 +1,4 @@
--- The pair of a stretch that there is.
+-- There is a pair, so the remainder by their number is a pair.
 use mathlib.Core.Path.{refl}
 use native.Mathlib.Omega.{arith}
 use Rattle.uses.proofs.StretchNumbers.{k-pos, stretch-pair}

@@ -1,4 +1,4 @@
--- The thread of a stretch that there is.
+-- The stretch is below n * k, so its quotient by k is below n.
 use mathlib.Core.Path.{refl}
 use native.Mathlib.Omega.{arith}
 use Rattle.uses.proofs.StretchNumbers.{k-pos, stretch-thread}
