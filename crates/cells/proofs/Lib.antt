@@ -4,6 +4,7 @@
 --   DueLaws       the column that is due
 --   SoFarLaws     the row that is being read through a reader
 --   RowFits       a row that was read fits its columns
+--   RowLooks      how far reading a row looks
 --   RowStops      a row is refused where its first fault is
 --   StageLaws     what the answer of reading a row tells
 --   Values        columns, numbers, rows and rows so far as values in a walk
@@ -14,6 +15,7 @@ pub mod RowLaws
 pub mod DueLaws
 pub mod SoFarLaws
 pub mod RowFits
+pub mod RowLooks
 pub mod RowStops
 pub mod StageLaws
 pub mod Values

@@ -7,22 +7,18 @@
 -- `Stands` says what stands in a file from a place on; what was written stands there part by part, and each part is read where it stands. The
 -- other way, each number that is read takes its own bytes off the front of the file, and at the end no byte is left.
 use mathlib.Core.Path.{_≡_, refl, sym, _∙_}
-use mathlib.Core.Bool.{Bool, true, false}
 use mathlib.Core.List.{List, [], _∷_, _++_, append-nil, append-assoc}
 use Prim.Native.Nat.{ℕ, zero, suc, _+_, _-_, _≤_, _<_}
 use native.Mathlib.Omega.{arith}
 use native.Mathlib.Nat.{add-zero}
 use borrow.Author.Tests.{le-ltb}
-use lib.Dec.{ltb, eqb}
 use lib.ListN.{length, drop, length-append, take-append-drop, drop-of-length-le}
 use lib.Seq.{drop-drop}
-use Rattle.numbers.specs.declared.refusals.Refusal.{Refusal}
-use Rattle.numbers.specs.declared.refusals.Refusal.the-variants.{Version, Outside}
-use Rattle.numbers.specs.Reading.{Out, got, bad, pick, numberAt, fieldAt, versionAt}
+use Rattle.numbers.specs.Reading.{got, numberAt, fieldAt, versionAt}
 use Rattle.numbers.specs.Writing.{bytesOf}
-use Rattle.numbers.proofs.ReadingLaws.{never, parts}
-use Rattle.numbers.proofs.FieldLaws.{field-in}
-use Rattle.numbers.proofs.VersionLaws.{version-one, version-got}
+use Rattle.numbers.proofs.ReadingLaws.{parts}
+use Rattle.numbers.proofs.FieldLaws.{field-in, field-number}
+use Rattle.numbers.proofs.VersionLaws.{version-one, version-got, version-number}
 use Rattle.numbers.proofs.RoundTrip.{Stands, sets-stand, stands-read, Bytes, put-read}
 use Rattle.files.specs.Table.{mostFacts}
 use Rattle.cells.proofs.RowMemory.{sets-whole}
@@ -107,27 +103,6 @@ pub claim-back : (w : ℕ) (ps : List ℕ) → w ≤ mostFacts → AscendingBelo
 claim-back w ps small a = claim-stands w small (claimBytes ps) ps a (stands-self (claimBytes ps)) (omega arith)
 
 -- ---- an accepted claim is what is written for its positions
-
-past-bad : (t : Bool) (r : Refusal) (o : Out ℕ) (v n : ℕ) → pick t (bad r) o ≡ got v n → o ≡ got v n
-past-bad true r o v n e = never (cc)
-past-bad false r o v n e = e
-
-before-bad : (t : Bool) (r : Refusal) (o : Out ℕ) (v n : ℕ) → pick t o (bad r) ≡ got v n → o ≡ got v n
-before-bad true r o v n e = e
-before-bad false r o v n e = never (cc)
-
-field-number : (s : List ℕ) (at low end v n : ℕ) → fieldAt s at low end ≡ got v n → numberAt s at ≡ got v n
-unfolding fieldAt
-field-number s at low end v n e =
-    let p = parts (numberAt s at) _ v n e in
-    p .was
-    ∙ before-bad (ltb (p .first) end) (Outside at) (got (p .first) (p .place)) v n (past-bad (ltb (p .first) low) (Outside at) _ v n (p .rest))
-
-version-number : (s : List ℕ) (v n : ℕ) → versionAt s ≡ got v n → numberAt s 0 ≡ got v n
-unfolding versionAt
-version-number s v n e =
-    let p = parts (numberAt s 0) _ v n e in
-    p .was ∙ before-bad (eqb (p .first) 1) Version (got (p .first) (p .place)) v n (p .rest)
 
 -- a position taken off, and then the others
 off-more : (last p : ℕ) (rest z : List ℕ) {x y ps : List ℕ} → x ≡ bytesOf (p - last) ++ y → y ≡ positionBytes p rest ++ z → ps ≡ p ∷ rest

@@ -1,7 +1,8 @@
 -- Laws of a number that has a range.
 --     field-low, -high, -in    what `fieldAt` gives for a number below its range, above it and in it
 --     field-got                what is known of a field that was read
-use mathlib.Core.Path.{_≡_, refl}
+--     field-number             it is a number that was read
+use mathlib.Core.Path.{_≡_, refl, _∙_}
 use mathlib.Core.List.{List}
 use mathlib.Core.Bool.{Bool, true, false}
 use Prim.Native.Nat.{ℕ, _≤_, _<_}
@@ -43,3 +44,9 @@ module _ (s : List ℕ) (at low end : ℕ) where
       let p = parts (numberAt s at) _ v n h in
       let k = range-in (p .first) (p .place) v n _ refl _ refl (p .rest) in
       omega (arith, k .1, k .2, number-past s at v n (cc))
+
+  pub field-number : (v n : ℕ) → fieldAt s at low end ≡ got v n → numberAt s at ≡ got v n
+  unfolding fieldAt
+  field-number v n h =
+      let p = parts (numberAt s at) _ v n h in
+      p .was ∙ range-in (p .first) (p .place) v n _ refl _ refl (p .rest) .0

@@ -3,6 +3,7 @@
 --   NumberLaws   a number that is read
 --   WritingLaws  how a number is written
 --   PutLaws      what is put, and then something else at the place past it
+--   Looks        how far reading looks, and so what it gives of a file that is cut
 --   RoundTrip    reading and writing a number undo one another
 --   FieldLaws    a number that has a range
 --   VersionLaws  the version that a file begins with
@@ -12,6 +13,7 @@ pub mod ReadingLaws
 pub mod NumberLaws
 pub mod WritingLaws
 pub mod PutLaws
+pub mod Looks
 pub mod RoundTrip
 pub mod FieldLaws
 pub mod VersionLaws

@@ -4,11 +4,12 @@
 --     accepted, accepted-groups                  `groupsAt` gives a value exactly where the bytes are those of a number
 --     number-groups, -small                      a number is four groups at most, and a byte below 128 is one by itself
 --     number-past, number-below                  a number that was read ends within the bytes, and is below 2^28
+--     number-short                               it takes no more bytes than it is large, and 0 takes one
 -- Each property of a number is an induction on `Accepted`.
 use mathlib.Core.Path.{_≡_, refl, sym, _∙_}
 use mathlib.Core.List.{List}
 use mathlib.Core.Bool.{Bool, true, false}
-use Prim.Native.Nat.{ℕ, zero, suc, _+_, _*_, _-_, _%_, _^_, _≤_, _<_}
+use Prim.Native.Nat.{ℕ, zero, suc, _+_, _*_, _-_, _%_, _^_, max, _≤_, _<_}
 use native.Mathlib.Omega.{arith}
 use native.Mathlib.Nat.{one-le-pow, lt-of-lt-of-le, pow-le-pow-right}
 use borrow.Author.Tests.{lt-ltb, le-ltb, ltb-true, ltb-false}
@@ -98,6 +99,11 @@ module _ (s : List ℕ) where
   accepted-one (ended h l z e m) = omega arith
   accepted-one (more w h l e a) = omega (arith, accepted-one a)
 
+  -- a number of two bytes or more is 128 or more, and has four at most
+  accepted-short : {least at v n : ℕ} → Accepted s 4 least at v n → n ≤ at + max 1 v
+  accepted-short (ended h l z e m) = omega arith
+  accepted-short (more w h l e a) = omega (arith, accepted-past a, accepted-one a)
+
 -- ---- a number is at most four groups
 
 pub number-groups : (s : List ℕ) (at : ℕ) {r : Grouped} → r ≡ groupsAt 4 0 s at → numberAt s at ≡ outOf (length s) at r
@@ -124,3 +130,6 @@ module _ (s : List ℕ) (at v n : ℕ) (q : numberAt s at ≡ got v n) where
 
   pub number-below : v < 268435456
   number-below = accepted-below s 4 number-accepted
+
+  pub number-short : n ≤ at + max 1 v
+  number-short = accepted-short s number-accepted

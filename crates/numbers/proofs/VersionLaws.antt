@@ -1,7 +1,8 @@
 -- Laws of the version that a file begins with.
 --     version-one, -other, -bad    what `versionAt` gives, one law for each way that it goes
 --     version-got                  what is known of a version that was read
-use mathlib.Core.Path.{_≡_, refl}
+--     version-number, -past        it is a number that was read, and takes one byte
+use mathlib.Core.Path.{_≡_, refl, _∙_}
 use mathlib.Core.List.{List}
 use mathlib.Core.Bool.{Bool, true, false}
 use Prim.Native.Nat.{ℕ, _≤_, _<_}
@@ -13,7 +14,7 @@ use Rattle.numbers.specs.declared.refusals.Refusal.{Refusal}
 use Rattle.numbers.specs.declared.refusals.Refusal.the-variants.{Version}
 use Rattle.numbers.specs.Reading.{got, bad, pick, numberAt, versionAt}
 use Rattle.numbers.proofs.ReadingLaws.{never, parts}
-use Rattle.numbers.proofs.NumberLaws.{number-past}
+use Rattle.numbers.proofs.NumberLaws.{number-past, number-short}
 
 module _ (s : List ℕ) where
   pub version-one : {v n : ℕ} → numberAt s 0 ≡ got v n → v ≡ 1 → versionAt s ≡ got v n
@@ -42,3 +43,12 @@ module _ (s : List ℕ) where
       let p = parts (numberAt s 0) _ v n h in
       let k = one-in (p .first) (p .place) v n _ refl (p .rest) in
       omega (arith, k .1, number-past s 0 v n (cc))
+
+  pub version-number : (v n : ℕ) → versionAt s ≡ got v n → numberAt s 0 ≡ got v n
+  unfolding versionAt
+  version-number v n h =
+      let p = parts (numberAt s 0) _ v n h in
+      p .was ∙ one-in (p .first) (p .place) v n _ refl (p .rest) .0
+
+  pub version-past : (v n : ℕ) → versionAt s ≡ got v n → n ≡ 1
+  version-past v n h = omega (arith, version-got v n h, number-short s 0 v n (version-number v n h))

@@ -1,12 +1,14 @@
 -- Laws of how a number is written, and the invariant of the loop that writes it.
 --     groupsOf-last, groupsOf-more                    the bytes of a number, one group at a time
 --     one-byte, .., one-to-four-bytes             how many they are
+--     no-more-bytes                               no more than the number is large, and 0 takes one
 --     Writing, write-start, -more, -last, -room   the loop: what it has still to write gives the whole
 --     put-room, put-big, put-full                 what `put_number` leaves where it writes, and where it does not
 use mathlib.Core.Path.{_≡_, refl, sym, _∙_}
 use mathlib.Core.List.{List, [], _∷_}
 use mathlib.Core.Bool.{Bool, false}
-use Prim.Native.Nat.{ℕ, zero, suc, _+_, _/_, _%_, _^_, _≤_, _<_}
+use Prim.Native.Nat.{ℕ, zero, suc, _+_, _/_, _%_, _^_, max, _≤_, _<_}
+use native.Mathlib.Decide.{decLt}
 use native.Mathlib.Omega.{arith}
 use native.Mathlib.Numerals.{add-one}
 use borrow.Author.Tests.{lt-ltb, le-ltb, le-leb, lt-leb}
@@ -61,6 +63,13 @@ module _ (value : ℕ) where
   pub one-to-four-bytes : (1 ≤ length (bytesOf value)) × (length (bytesOf value) ≤ 4)
   unfolding bytesOf
   one-to-four-bytes = (groupsOf-some 3 value, groupsOf-most 4 value)
+
+  pub no-more-bytes : length (bytesOf value) ≤ max 1 value
+  no-more-bytes = by (decLt value 128)
+    where
+      by : Dec (value < 128) → length (bytesOf value) ≤ max 1 value
+      by (yes h) = omega (arith, one-byte h)
+      by (no h) = omega (arith, one-to-four-bytes)
 
 -- ---- the loop
 

@@ -2,18 +2,21 @@
 --     ended-left               bytes that are left at a place are bytes after the end there
 --     end-past, end-refused    what an end tells of what was read
 --     end-after                the end of the file after a part is where the whole ends that is made of the part
+--     end-looks                whether the file ends looks at one byte
 use mathlib.Core.Path.{_≡_, refl}
 use mathlib.Core.List.{List}
 use mathlib.Core.Bool.{Bool, true, false}
 use Prim.Native.Nat.{ℕ}
 use native.Mathlib.Omega.{arith}
-use borrow.Author.Tests.{eq-eqb, ne-eqb, ltb-true, ltb-false}
-use lib.ListN.{length}
+use borrow.Author.Tests.{eq-eqb, ne-eqb, lt-ltb, ltb-true, ltb-false}
+use lib.ListN.{length, take}
+use lib.Seq.{length-take-le}
 use lib.Dec.{ltb}
 use Rattle.numbers.specs.declared.refusals.Refusal.{Refusal}
 use Rattle.numbers.specs.declared.refusals.Refusal.the-variants.{After}
 use Rattle.numbers.specs.Reading.{Out, got, bad, then, pick}
 use Rattle.numbers.proofs.ReadingLaws.{never}
+use Rattle.numbers.proofs.Looks.{Looks, cut-same}
 use Rattle.reader.specs.declared.ends.End.the-variants.{Past, Refused}
 use Rattle.reader.specs.Places.{leftFrom}
 use Rattle.reader.specs.Ends.{atEnd, endOf, endAfter}
@@ -45,3 +48,17 @@ end-same a b p false = refl
 pub end-after : {A B : Type 0} (s : List ℕ) (o : Out A) (f : A → B) → endAfter (endOf o) s ≡ endOf (then o λ a p. atEnd (f a) s p)
 end-after s (got a p) f = end-same (tt {0}) (f a) p (ltb p (length s))
 end-after s (bad r) f = refl
+
+-- ---- how far the end looks
+
+after-past : {A : Type 0} (t : Bool) (a b : A) (p n : ℕ) → pick t (bad (After p)) (got a p) ≡ got b n → n ≡ p
+after-past true a b p n e = never (cc)
+after-past false a b p n e = cc
+
+pub end-looks : {A : Type 0} (a : A) → Looks 1 (atEnd a)
+end-looks a =
+    record {
+      same = λ s k at h. cut-same (λ s. atEnd a s at) s k λ l.
+      rw (lt-ltb at (length s) (omega arith), lt-ltb at (length (take k s)) (omega (arith, length-take-le k s l)));
+      past = λ s at b n e. omega (arith, after-past (ltb at (length s)) a b at n e);
+    }
