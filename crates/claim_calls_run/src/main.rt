@@ -334,11 +334,7 @@ fn starts() {
 fn several_missing() {
     text(b"several missing\n");
     let training = training::file();
-    check_all(
-        &training,
-        9600,
-        b"\x08\x01\x03\xCF\x04\xC0\x18\xC0\x18",
-    );
+    check_all(&training, 9600, b"\x08\x01\x03\xCF\x04\xC0\x18\xC0\x18");
 }
 
 // What comes first: the table's fault, then short memory, then the claim's fault.

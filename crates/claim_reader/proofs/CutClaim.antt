@@ -29,9 +29,13 @@ module _ (w : ℕ) where
   count-past s j n e =
       let v = parts (versionAt s) _ j n e in
       let number = field-number s (v .place) 0 (w + 1) j n (v .rest) in
-      omega
-      (arith, version-past s (v .first) (v .place) (v .was), field-got s (v .place) 0 (w + 1) j n (v .rest), number-past s (v .place) j n number,
-        number-short s (v .place) j n number)
+      omega (
+        arith,
+        version-past s (v .first) (v .place) (v .was),
+        field-got s (v .place) 0 (w + 1) j n (v .rest),
+        number-past s (v .place) j n number,
+        number-short s (v .place) j n number,
+      )
 
   -- ---- the positions
 

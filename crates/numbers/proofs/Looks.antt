@@ -52,11 +52,11 @@ module _ {A B : Type 0} {c d : ℕ} {f : List ℕ → ℕ → Out A} {g : ℕ �
   looks-then l m =
       record {
         same = λ s k at h.
-        then-same (f s at) (l .same s k at (omega arith)) (λ a n e. m s at a n e .same s k n (omega (arith, l .past s at a n e)));
+            then-same (f s at) (l .same s k at (omega arith)) (λ a n e. m s at a n e .same s k n (omega (arith, l .past s at a n e)));
         past = λ s at b n e.
-        let p = parts (f s at) (λ a next. g at a s next) b n e in
-        let was = p .was in
-        omega (arith, l .past s at (p .first) (p .place) was, m s at (p .first) (p .place) was .past s (p .place) b n (p .rest));
+            let p = parts (f s at) (λ a next. g at a s next) b n e in
+            let was = p .was in
+            omega (arith, l .past s at (p .first) (p .place) was, m s at (p .first) (p .place) was .past s (p .place) b n (p .rest));
       }
 
 module _ {A : Type 0} where
@@ -105,8 +105,12 @@ module _ (s : List ℕ) (k : ℕ) (h : k ≤ length s) where
   unfolding groupsAt
   groups-same zero least at l = refl
   groups-same (suc left) least at l =
-      rw (lt-ltb at (length s) (omega arith), lt-ltb at (length (take k s)) (omega (arith, length-take-le k s h)),
-          getD-take k s at 0 (omega arith), groups-same left 1 (at + 1) (omega arith))
+      rw (
+        lt-ltb at (length s) (omega arith),
+        lt-ltb at (length (take k s)) (omega (arith, length-take-le k s h)),
+        getD-take k s at 0 (omega arith),
+        groups-same left 1 (at + 1) (omega arith),
+      )
 
   number-same : (at : ℕ) → at + 4 ≤ k → numberAt (take k s) at ≡ numberAt s at
   unfolding numberAt

@@ -59,6 +59,6 @@ pub end-looks : {A : Type 0} (a : A) → Looks 1 (atEnd a)
 end-looks a =
     record {
       same = λ s k at h. cut-same (λ s. atEnd a s at) s k λ l.
-      rw (lt-ltb at (length s) (omega arith), lt-ltb at (length (take k s)) (omega (arith, length-take-le k s l)));
+          rw (lt-ltb at (length s) (omega arith), lt-ltb at (length (take k s)) (omega (arith, length-take-le k s l)));
       past = λ s at b n e. omega (arith, after-past (ltb at (length s)) a b at n e);
     }
