@@ -1,10 +1,10 @@
 -- How far reading a row looks: four bytes for each of its columns. A column that is not there looks at none.
-use mathlib.Core.Path.{_≡_, ap}
+use mathlib.Core.Path.{ap}
 use mathlib.Core.List.{List, [], _∷_}
 use Prim.Native.Nat.{ℕ, _*_}
 use native.Mathlib.Omega.{arith}
 use lib.ListN.{length}
-use Rattle.numbers.specs.Reading.{Out, got}
+use Rattle.numbers.specs.Reading.{Out}
 use Rattle.numbers.proofs.Looks.{Looks, looks-then, looks-got, looks-more, field-looks}
 use Rattle.cells.specs.declared.columns.Column.{Column}
 use Rattle.cells.specs.declared.columns.Column.the-variants.{Within, Below, Absent}

@@ -18,8 +18,7 @@ fn memory() -> [u8; MOST_FACTS]
     [0; MOST_FACTS]
 }
 
-// The room for a claim. No sound one has more than W + 5 bytes (see `claim_write`), and after so many at most three more bytes can belong to a number
-// that is not at its end. So of a file that is longer than the room, what comes back is what would come back of the whole.
+// The room for a claim. Of a file that is longer, what comes back of so many bytes comes back of the whole (`claims:Cuts.claim-check-cut`).
 const CLAIM_ROOM: usize = MOST_FACTS + 9;
 
 // Room for the claim.
@@ -91,7 +90,7 @@ fn main() {
     if file < 0 {
         return;
     }
-    // more than any sound table has: what comes back of so many bytes comes back of the whole file
+    // what comes back of so many bytes comes back of the whole file (`claims:Cuts.claim-check-cut`)
     let mut table = io::large_buffer();
     let n = io::read_full(file, &mut table);
     if is_read(file, 1) {

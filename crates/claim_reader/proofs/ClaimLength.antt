@@ -1,5 +1,5 @@
--- No claim of positions below w is longer than w + 5 bytes. The version takes a byte and the count at most four. A distance takes no more bytes than it
--- is large, and the first position at most one more; the distances make up the last position, which is below w.
+-- No claim of positions below w is longer than w + 5 bytes. The version takes a byte and the count at most four. A distance takes no more bytes than
+-- it is large, and the first position at most one more; the distances make up the last position, which is below w.
 use mathlib.Core.List.{List, [], _∷_}
 use Prim.Native.Nat.{ℕ, _+_, _-_, _≤_, _<_}
 use native.Mathlib.Omega.{arith}

@@ -1,12 +1,12 @@
 -- Of a file that is cut at w + 9 bytes or later, the claim reader gives what it gives of the whole, refusals with their places too. The count ends by
--- byte 5. A position takes no more bytes than it lies past the one before, and the first at most one more; so what is read of ascending positions below
--- w ends by byte w + 5. The number after that looks at four bytes more, and the end of the file at one.
+-- byte 5. A position takes no more bytes than it lies past the one before, and the first at most one more; so what is read of ascending positions
+-- below w ends by byte w + 5. A number there looks at four bytes more, and the end of the file at one.
 use mathlib.Core.Path.{_≡_, refl, ap}
 use mathlib.Core.List.{List}
 use Prim.Native.Nat.{ℕ, zero, suc, _+_, _-_, min, max, _≤_}
 use native.Mathlib.Omega.{arith}
 use lib.ListN.{take}
-use Rattle.numbers.specs.Reading.{got, fieldAt, versionAt}
+use Rattle.numbers.specs.Reading.{got, versionAt}
 use Rattle.numbers.proofs.ReadingLaws.{parts}
 use Rattle.numbers.proofs.NumberLaws.{number-past, number-short}
 use Rattle.numbers.proofs.FieldLaws.{field-got, field-number}
@@ -48,6 +48,7 @@ module _ (w : ℕ) where
   position-looks least last = looks-then (field-looks least (w - last)) (λ s at d n e. looks-got (last + d))
 
   module _ (s : List ℕ) where
+    -- a position takes no more of them than it leaves fewer to those past it
     position-past : (least last at p n : ℕ) → positionAt w least last s at ≡ got p n → n + most 1 p ≤ at + most least last
     unfolding most
     position-past least last at p n e =
@@ -65,7 +66,8 @@ module _ (w : ℕ) where
         (arith, position-past least last at (f .p) (f .next) (f .was), positions-past j 1 (f .p) (f .next) (f .others .rest) n (f .others .was))
 
     module _ (k : ℕ) where
-      positions-same : (j least last at : ℕ) → at + most least last + 4 ≤ k → positionsAt w j least last (take k s) at ≡ positionsAt w j least last s at
+      positions-same : (j least last at : ℕ) → at + most least last + 4 ≤ k
+          → positionsAt w j least last (take k s) at ≡ positionsAt w j least last s at
       unfolding positionsAt
       positions-same zero least last at h = refl
       positions-same (suc j) least last at h =

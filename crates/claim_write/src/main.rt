@@ -5,6 +5,7 @@ ghost use mathlib.Core.Path.{_≡_};
 ghost use Prim.Native.Nat.{_+_};
 ghost use lib.ListN.{length};
 ghost use Rattle.files.specs.Table.{mostFacts};
+ghost use Rattle.claim_write_call.specs.AnyTable.{AnyWritten};
 use claim_report::written::bytes_line;
 use claim_report::written::first_line;
 use claim_report::written::verdict_line;
@@ -22,8 +23,7 @@ fn memory() -> [u8; MOST_FACTS]
     [0; MOST_FACTS]
 }
 
-// No claim is longer. The version takes a byte and the count at most four. A distance takes no more bytes than it is large, and the first position at
-// most one more; the distances make up the last position, which is below W. The claim of all positions is as long as this.
+// No claim is longer (`claim_reader:ClaimLength.claim-length`). The claim of all positions is as long as this.
 const CLAIM_MOST: usize = MOST_FACTS + 5;
 
 // Space for any claim.
@@ -87,11 +87,19 @@ fn save(claim: &[u8]) -> bool {
     false
 }
 
-// Checks a table and writes its claim. No table has more facts than the budget.
+// Checks any table and writes its claim: the table is refused, or the claim is written. No table has more facts than the memory and the budget, and no
+// claim is longer than the space.
+fn write_any(table: &[u8], mem: &mut [u8; MOST_FACTS], space: &mut [u8; CLAIM_MOST]) -> WriteAnswer
+    ensures { λ r. ⌜ AnyWritten (now (table .entry)) (now (mem .entry)) (now (space .entry)) r (now (mem .exit)) (now (space .exit)) ⌝ }
+{
+    write_claim(table, mem, MOST_FACTS, space)
+}
+
+// Checks a table and writes its claim.
 fn run(table: &[u8]) {
     let mut mem = memory();
     let mut space = space();
-    let answer = write_claim(table, &mut mem, MOST_FACTS, &mut space);
+    let answer = write_any(table, &mut mem, &mut space);
     match answer {
         WriteAnswer::Written {
             count: _,
@@ -115,7 +123,7 @@ fn main() {
     if file < 0 {
         return;
     }
-    // more than any sound table has: what comes back of so many bytes comes back of the whole file
+    // what comes back of so many bytes comes back of the whole file (`claims:Cuts.claim-writing-cut`)
     let mut table = io::large_buffer();
     let n = io::read_full(file, &mut table);
     if is_read(file, 1) {

@@ -1,14 +1,12 @@
 -- How far reading looks. Of a file that is cut past there it gives the same, refusals too: a file that the cut changes is longer than the cut, so no
 -- number that ends before the cut is cut short, in the part as in the whole.
---     Looks             reading at a place looks at no more than so many bytes
---     cut-same          what is cut is the same if it is where the cut is within the file
---     then-same         what is read in parts is the same where each part is
---     looks-then        what is read in two parts looks as far as both together
---     looks-got, -bad   what reads nothing looks at nothing
---     looks-more        who looks at no more bytes looks at no more than any larger number of them
---     number-looks, field-looks    a number, whatever its range, looks at four bytes
---     version-looks     and so does the version
-use mathlib.Core.Path.{_≡_, refl, sym, ap, _∙_}
+--     Looks                           reading at a place looks at no more than so many bytes
+--     cut-same                        only a cut within the file may change what is read
+--     then-same, looks-then           what is read in two parts is the same where both are, and looks as far as both together
+--     looks-got, -bad, -pick, -more   what reads nothing looks at nothing; one of two; and any larger number will do
+--     number-looks, field-looks       a number, whatever its range, looks at four bytes
+--     version-looks                   and so does the version
+use mathlib.Core.Path.{_≡_, refl, ap, _∙_}
 use mathlib.Core.List.{List}
 use mathlib.Core.Bool.{Bool, true, false}
 use Prim.Native.Nat.{ℕ, zero, suc, _+_, _%_, _≤_}
@@ -21,7 +19,7 @@ use lib.Dec.{ltb, eqb}
 use Rattle.numbers.specs.declared.refusals.Refusal.{Refusal}
 use Rattle.numbers.specs.declared.refusals.Refusal.the-variants.{Version, Outside}
 use Rattle.numbers.specs.declared.reading.Grouped.{Grouped}
-use Rattle.numbers.specs.declared.reading.Grouped.the-variants.{Value, Cut, Long}
+use Rattle.numbers.specs.declared.reading.Grouped.the-variants.{Value, Long}
 use Rattle.numbers.specs.Reading.{Out, got, bad, then, pick, onto, groupsAt, outOf, numberAt, fieldAt, versionAt}
 use Rattle.numbers.proofs.ReadingLaws.{never, parts, pick-either}
 use Rattle.numbers.proofs.NumberLaws.{number-past}
@@ -129,7 +127,8 @@ number-looks =
 pub field-looks : (low end : ℕ) → Looks 4 (λ s at. fieldAt s at low end)
 unfolding fieldAt
 field-looks low end =
-    looks-then number-looks (λ s at v n e. looks-pick (ltb v low) (looks-bad (Outside at)) (looks-pick (ltb v end) (looks-got v) (looks-bad (Outside at))))
+    looks-then number-looks λ s at v n e.
+    looks-pick (ltb v low) (looks-bad (Outside at)) (looks-pick (ltb v end) (looks-got v) (looks-bad (Outside at)))
 
 -- the version, wherever it is asked for, is read at the start of the file
 pub version-looks : Looks 4 (λ s at. versionAt s)

@@ -10,27 +10,21 @@ memory-requires c κs = search needs
 space-requires : tie.Need-space-requires
 space-requires c κs = search needs
 
-slice-aggregate-write-claim : tie.Need-slice-aggregate-write-claim
-slice-aggregate-write-claim c = search needs
-
-slice-aggregate-write-claim-2 : tie.Need-slice-aggregate-write-claim-2
-slice-aggregate-write-claim-2 c = search needs
-
-write-claim-requires : tie.Need-write-claim-requires
-write-claim-requires c κs = search needs
+write-any-requires : tie.Need-write-any-requires
+write-any-requires c κs = search needs
 
 enum-known-answer : tie.Need-enum-known-answer
 enum-known-answer c = search needs
 
 array-share-prefix-space : tie.Need-array-share-prefix-space
 array-share-prefix-space c =
-    let told = c .before .before .before .before .before .write-claim in
-    written-within (rw (c .before .answer .given .1) at (told .ensures)) .0
+    let told = c .before .before .before .write-any in
+    written-within (rw (c .before .answer .given .1) at (told .ensures .told)) .0
 
 slice-aggregate-save : tie.Need-slice-aggregate-save
 slice-aggregate-save c =
-    let told = c .before .before .before .before .before .before .write-claim in
-    written-within (rw (c .before .before .answer .given .1) at (told .ensures)) .1
+    let told = c .before .before .before .before .write-any in
+    written-within (rw (c .before .before .answer .given .1) at (told .ensures .told)) .1
 
 save-requires : tie.Need-save-requires
 save-requires c κs = search needs
@@ -56,9 +50,7 @@ run-spec =
     (tie.spec
     memory-requires
     space-requires
-    slice-aggregate-write-claim
-    slice-aggregate-write-claim-2
-    write-claim-requires
+    write-any-requires
     enum-known-answer
     array-share-prefix-space
     slice-aggregate-save
