@@ -1,14 +1,19 @@
 // The program `claim_check TABLE CLAIM`: checks the claim in a file against the table in another. Prints that it is accepted, with its count of
-// facts; or the refusal. What a file is at fault for is said on standard error.
+// facts; or the refusal. Why it is refused, and what is wrong with a file, is said on standard error.
 ghost use mathlib.Core.Path.{_≡_};
 ghost use Prim.Native.Nat.{_+_};
 ghost use lib.ListN.{length};
 ghost use Rattle.files.specs.Table.{mostFacts};
+use claim_check_call::answer::claim_reply_of;
 use claim_check_call::check::check_claim;
 use claim_report::checked::checked_line;
 use files::header::MOST_FACTS;
+use inputs::reading::Input;
+use inputs::reading::read_argument;
+use inputs::reading::read_table;
+use inputs::telling::print;
+use inputs::telling::say_refusal;
 use libc::STDERR_FILENO;
-use libc::STDOUT_FILENO;
 use text::lines::ROOM;
 
 // Working memory for any table. The `ensures` gives its length, which lending it asks.
@@ -28,56 +33,23 @@ fn room() -> [u8; CLAIM_ROOM]
     [0; CLAIM_ROOM]
 }
 
-// Says that a file is at fault, by its name and the system's reason.
-fn cannot(what: &[u8], name: &[u8]) {
-    io::write_all(STDERR_FILENO, what);
-    os::fail(name);
-}
-
-// Opens the file that argument i names, and gives its descriptor. Where it cannot be opened says so, and gives a number below 0.
-fn open(i: usize) -> i32 {
-    let mut name = io::buffer();
-    let length = os::arg(i, &mut name);
-    let file = os::open_read(&name[..length]);
-    if file < 0 {
-        cannot(b"cannot open ", &name[..length]);
-    }
-    file
-}
-
-// Closes the file that argument i names, after `io::read_full`, and gives whether it was read. That stops alike at the end of a file and at a read
-// that fails; one read more tells them apart. Where it failed says so.
-fn is_read(file: i32, i: usize) -> bool {
-    let mut name = io::buffer();
-    let length = os::arg(i, &mut name);
-    let mut more = [0u8; 1];
-    let got = libc::read(file, &mut more);
-    if got < 0 {
-        cannot(b"cannot read ", &name[..length]);
-    }
-    libc::close(file);
-    got >= 0
-}
-
-// Checks a claim against a table, and prints the answer.
+// Checks a claim against a table, and prints the answer; a refusal is said in words too.
 fn run(table: &[u8], claim: &[u8]) {
     let mut mem = memory();
     let answer = check_claim(table, claim, &mut mem);
     let mut line = [0u8; ROOM];
     let length = checked_line(answer, &mut line);
-    io::write_all(STDOUT_FILENO, &line[..length]);
+    if print(&line[..length]) {
+        say_refusal(claim_reply_of(answer));
+    }
 }
 
 // Reads the claim, and checks it against a table.
 fn check_against(table: &[u8]) {
-    let file = open(2);
-    if file < 0 {
-        return;
-    }
     let mut claim = room();
-    let n = io::read_full(file, &mut claim);
-    if is_read(file, 2) {
-        run(table, &claim[..n]);
+    match read_argument(2, &mut claim) {
+        Input::Bytes { count } => run(table, &claim[..count]),
+        Input::Unread => {}
     }
 }
 
@@ -86,14 +58,10 @@ fn main() {
         io::write_all(STDERR_FILENO, b"usage: claim_check TABLE CLAIM\n");
         return;
     }
-    let file = open(1);
-    if file < 0 {
-        return;
-    }
     // what comes back of so many bytes comes back of the whole file (`claims:Cuts.claim-check-cut`)
     let mut table = io::large_buffer();
-    let n = io::read_full(file, &mut table);
-    if is_read(file, 1) {
-        check_against(&table[..n]);
+    match read_table(&mut table) {
+        Input::Bytes { count } => check_against(&table[..count]),
+        Input::Unread => {}
     }
 }

@@ -1,6 +1,6 @@
 // The program `claim_write TABLE CLAIM`: checks the table in a file and writes the claim of its facts to another file. Prints the number of facts,
-// the verdict and the number of bytes written; or, where the table is refused, the refusal, and no file is written. What a file is at fault for is
-// said on standard error.
+// the verdict and the number of bytes written; or, where the table is refused, the refusal, and no file is written. Why a table is refused, and what
+// is wrong with a file, is said on standard error.
 ghost use mathlib.Core.Path.{_≡_};
 ghost use Prim.Native.Nat.{_+_};
 ghost use lib.ListN.{length};
@@ -10,10 +10,16 @@ use claim_report::written::bytes_line;
 use claim_report::written::first_line;
 use claim_report::written::verdict_line;
 use claim_write_call::answer::WriteAnswer;
+use claim_write_call::answer::write_reply_of;
 use claim_write_call::write::write_claim;
 use files::header::MOST_FACTS;
+use inputs::reading::Input;
+use inputs::reading::read_table;
+use inputs::telling::cannot;
+use inputs::telling::cannot_argument;
+use inputs::telling::print;
+use inputs::telling::say_refusal;
 use libc::STDERR_FILENO;
-use libc::STDOUT_FILENO;
 use text::lines::ROOM;
 
 // Working memory for any table. The `ensures` gives its length, which lending it asks.
@@ -33,58 +39,49 @@ fn space() -> [u8; CLAIM_MOST]
     [0; CLAIM_MOST]
 }
 
-// Says that a file is at fault, by its name and the system's reason.
-fn cannot(what: &[u8], name: &[u8]) {
-    io::write_all(STDERR_FILENO, what);
-    os::fail(name);
-}
-
-// Opens the file that argument i names, and gives its descriptor. Where it cannot be opened says so, and gives a number below 0.
-fn open(i: usize) -> i32 {
-    let mut name = io::buffer();
-    let length = os::arg(i, &mut name);
-    let file = os::open_read(&name[..length]);
-    if file < 0 {
-        cannot(b"cannot open ", &name[..length]);
-    }
-    file
-}
-
-// Closes the file that argument i names, after `io::read_full`, and gives whether it was read. That stops alike at the end of a file and at a read
-// that fails; one read more tells them apart. Where it failed says so.
-fn is_read(file: i32, i: usize) -> bool {
-    let mut name = io::buffer();
-    let length = os::arg(i, &mut name);
-    let mut more = [0u8; 1];
-    let got = libc::read(file, &mut more);
-    if got < 0 {
-        cannot(b"cannot read ", &name[..length]);
-    }
-    libc::close(file);
-    got >= 0
-}
-
-// Prints the lines of an answer.
+// Prints the lines of an answer, as far as they can be printed; a refusal is said in words too.
 fn tell(table: &[u8], answer: WriteAnswer) {
     let mut line = [0u8; ROOM];
     let first = first_line(answer, &mut line);
-    io::write_all(STDOUT_FILENO, &line[..first]);
+    if !print(&line[..first]) {
+        return;
+    }
     let second = verdict_line(table, answer, &mut line);
-    io::write_all(STDOUT_FILENO, &line[..second]);
+    if !print(&line[..second]) {
+        return;
+    }
     let third = bytes_line(answer, &mut line);
-    io::write_all(STDOUT_FILENO, &line[..third]);
+    if print(&line[..third]) {
+        say_refusal(write_reply_of(answer));
+    }
 }
 
-// Writes a claim to the file that the second argument names, and gives whether it is written. Where it cannot be written says so.
+// Writes a claim to the file of a name, and gives whether it is written. Where it is not says so, after the file is closed: where standard error
+// was closed from the start, the file has its number.
+fn write(claim: &[u8], name: &[u8]) -> bool {
+    let file = os::open_overwrite(name);
+    if file < 0 {
+        cannot(b"cannot write ", name);
+        return false;
+    }
+    let is_whole = io::write_all(file, claim);
+    let is_closed = libc::close(file) >= 0;
+    if is_whole && is_closed {
+        return true;
+    }
+    cannot(b"cannot write ", name);
+    false
+}
+
+// Writes a claim to the file that the second argument names, and gives whether it is written. Where it is not says so.
 fn save(claim: &[u8]) -> bool {
     let mut name = io::buffer();
     let length = os::arg(2, &mut name);
-    let file = os::open_overwrite(&name[..length]);
-    if file >= 0 && io::write_all(file, claim) && libc::close(file) >= 0 {
-        return true;
+    if os::errno() != 0 {
+        cannot_argument(b"cannot write ", 2);
+        return false;
     }
-    cannot(b"cannot write ", &name[..length]);
-    false
+    write(claim, &name[..length])
 }
 
 // Checks any table and writes its claim: the table is refused, or the claim is written. No table has more facts than the memory and the budget, and no
@@ -119,14 +116,10 @@ fn main() {
         io::write_all(STDERR_FILENO, b"usage: claim_write TABLE CLAIM\n");
         return;
     }
-    let file = open(1);
-    if file < 0 {
-        return;
-    }
     // what comes back of so many bytes comes back of the whole file (`claims:Cuts.claim-writing-cut`)
     let mut table = io::large_buffer();
-    let n = io::read_full(file, &mut table);
-    if is_read(file, 1) {
-        run(&table[..n]);
+    match read_table(&mut table) {
+        Input::Bytes { count } => run(&table[..count]),
+        Input::Unread => {}
     }
 }

@@ -1,12 +1,17 @@
-// The listing program (document 01, "Reference tables and results"): checks the table on standard input and prints what comes back.
+// The program `listing < TABLE` (document 01, "Reference tables and results"): checks the table on standard input and prints what comes back. Why a
+// table is refused, and what is wrong with the input or the output, is said on standard error.
 ghost use mathlib.Core.Path.{_≡_};
 ghost use Prim.Native.Nat.{_+_, _≤_};
 ghost use lib.ListN.{length};
 ghost use Rattle.check_call.specs.Checking.{Checked};
 use check_call::answer::Answer;
+use check_call::answer::reply_of;
 use check_call::check::check;
-use libc::STDIN_FILENO;
-use libc::STDOUT_FILENO;
+use inputs::reading::Input;
+use inputs::reading::read_standard_input;
+use inputs::telling::print;
+use inputs::telling::say_refusal;
+use libc::STDERR_FILENO;
 use report::answers::first_line;
 use report::answers::verdict_line;
 use report::facts::Next;
@@ -25,13 +30,15 @@ fn check_on_bench(table: &[u8], mem: &mut Memory) -> Answer
     check(table, mem, BUDGET)
 }
 
-// Prints the lines of an answer.
-fn tell(table: &[u8], answer: Answer) {
+// Prints the lines of an answer, and gives whether they are printed.
+fn tell(table: &[u8], answer: Answer) -> bool {
     let mut line = [0u8; ROOM];
     let first = first_line(answer, &mut line);
-    io::write_all(STDOUT_FILENO, &line[..first]);
+    if !print(&line[..first]) {
+        return false;
+    }
     let second = verdict_line(table, answer, &mut line);
-    io::write_all(STDOUT_FILENO, &line[..second]);
+    print(&line[..second])
 }
 
 // The room for lines that are printed together.
@@ -50,19 +57,33 @@ fn put(line: &[u8], page: &mut [u8], at: usize) -> usize
     at + i
 }
 
-// Puts a line on a page after its first `used` bytes, and gives the place past it. A page without room for the line is printed first and begun anew.
-fn put_line(line: &[u8], page: &mut [u8], used: usize) -> usize
-    requires { ⌜ (length (now line) ≤ length (now page)) × (used ≤ length (now page)) ⌝ }
-    ensures { λ r. ⌜ r ≤ length (now (page .exit)) ⌝ }
-{
-    if line.len() <= page.len() - used {
-        return put(line, page, used);
-    }
-    io::write_all(STDOUT_FILENO, &page[..used]);
-    put(line, page, 0)
+// A page after a line was put on it: how many bytes are used, and whether what stood there before is printed.
+struct Page {
+    used: usize,
+    printed: bool,
 }
 
-// Prints the facts that are marked, a line each.
+// Puts a line on a page after its first `used` bytes. A page without room for the line is printed first and begun anew.
+fn put_line(line: &[u8], page: &mut [u8], used: usize) -> Page
+    requires { ⌜ (length (now line) ≤ length (now page)) × (used ≤ length (now page)) ⌝ }
+    ensures { λ r. ⌜ r .used ≤ length (now (page .exit)) ⌝ }
+{
+    if line.len() <= page.len() - used {
+        let next = put(line, page, used);
+        return Page {
+            used: next,
+            printed: true,
+        };
+    }
+    let printed = print(&page[..used]);
+    let next = put(line, page, 0);
+    Page {
+        used: next,
+        printed,
+    }
+}
+
+// Prints the facts that are marked, a line each, as far as they can be printed.
 fn list(table: &[u8], mem: &Memory) {
     let mut line = [0u8; ROOM];
     let mut page = [0u8; PAGE];
@@ -71,33 +92,45 @@ fn list(table: &[u8], mem: &Memory) {
     loop {
         match next_fact(table, mem, from, &mut line) {
             Next::Line { length, next } => {
-                used = put_line(&line[..length], &mut page, used);
+                let placed = put_line(&line[..length], &mut page, used);
+                if !placed.printed {
+                    return;
+                }
+                used = placed.used;
                 from = next;
             }
             Next::End => {
-                io::write_all(STDOUT_FILENO, &page[..used]);
+                print(&page[..used]);
                 return;
             }
         }
     }
 }
 
-// Checks a table, and prints the answer; the facts too, if the check is done.
+// Checks a table, and prints the answer: the facts too, if the check is done; else the refusal is said in words.
 fn run(table: &[u8]) {
     let mut mem = io::large_buffer();
     let answer = check_on_bench(table, &mut mem);
-    tell(table, answer);
+    if !tell(table, answer) {
+        return;
+    }
     match answer {
         Answer::Done {
             count: _,
             verdict: _,
         } => list(table, &mem),
-        _ => {}
+        _ => say_refusal(reply_of(answer)),
     }
 }
 
 fn main() {
+    if os::arg_count() > 1 {
+        io::write_all(STDERR_FILENO, b"usage: listing < TABLE\n");
+        return;
+    }
     let mut input = io::large_buffer();
-    let n = io::read_full(STDIN_FILENO, &mut input);
-    run(&input[..n]);
+    match read_standard_input(&mut input) {
+        Input::Bytes { count } => run(&input[..count]),
+        Input::Unread => {}
+    }
 }

@@ -46,14 +46,17 @@ put-line-requires c κs =
     let inv = c .before .before .before .before .before .before .before .before .loop .inv in
     (omega (arith, o .here, o .same, inv), omega (arith, inv))
 
+returns : tie.Need-returns Inv-loop μ-loop
+returns c = search needs
+
 loop-less : tie.Need-loop-less Inv-loop μ-loop
-loop-less c = let o = on (c .before .before .before .before .before) in omega (arith, o .further, o .within)
+loop-less c = let o = on (c .before .before .before .before .before .before .before) in omega (arith, o .further, o .within)
 
 loop-again : tie.Need-loop-again Inv-loop μ-loop
 loop-again c =
-    let inv = c .before .before .before .before .before .before .before .before .before .before .loop .inv in
-    let put = c .before .put-line in
-    let o = on (c .before .before .before .before .before) in
+    let inv = c .before .before .before .before .before .before .before .before .before .before .before .before .loop .inv in
+    let put = c .before .before .before .put-line in
+    let o = on (c .before .before .before .before .before .before .before) in
     (omega (arith, put .ensures, put .kept, inv), omega (arith, put .kept, inv), omega (arith, o .same, inv))
 
 enum-told : tie.Need-enum-told Inv-loop μ-loop
@@ -62,16 +65,16 @@ enum-told c = search needs
 array-share-prefix-page : tie.Need-array-share-prefix-page Inv-loop μ-loop
 array-share-prefix-page c = search needs
 
-slice-aggregate-write-all : tie.Need-slice-aggregate-write-all Inv-loop μ-loop
-slice-aggregate-write-all c =
+slice-aggregate-print : tie.Need-slice-aggregate-print Inv-loop μ-loop
+slice-aggregate-print c =
     let head = c .before .before .before .before .before .before .loop in
     sym (length-take-le _ _ (omega (arith, head .inv)))
 
-write-all-requires : tie.Need-write-all-requires Inv-loop μ-loop
-write-all-requires c κs = search needs
+print-requires : tie.Need-print-requires Inv-loop μ-loop
+print-requires c κs = search needs
 
-returns : tie.Need-returns Inv-loop μ-loop
-returns c = search needs
+returns-2 : tie.Need-returns-2 Inv-loop μ-loop
+returns-2 c = search needs
 
 pub list-spec : {M : Type 1} → statement M
 list-spec =
@@ -86,10 +89,11 @@ list-spec =
     slice-aggregate-put-line
     slice-aggregate-put-line-2
     put-line-requires
+    returns
     loop-less
     loop-again
     enum-told
     array-share-prefix-page
-    slice-aggregate-write-all
-    write-all-requires
-    returns)
+    slice-aggregate-print
+    print-requires
+    returns-2)
