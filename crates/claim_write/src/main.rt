@@ -22,7 +22,7 @@ use inputs::telling::say_refusal;
 use libc::STDERR_FILENO;
 use text::lines::ROOM;
 
-// Working memory for any table. The `ensures` gives its length, which lending it asks.
+// Working memory for any table: the largest W.
 fn memory() -> [u8; MOST_FACTS]
     ensures { λ r. ⌜ mostFacts ≡ length r ⌝ }
 {
