@@ -14,20 +14,22 @@ pub fn benchmark(one: Calls, two: Calls) -> Result<String, String> {
     let mut text = format!(
         "# Benchmark: {one} against {two}
 
-Processor time in milliseconds: the best of several runs, at least five, of both in turn in one process, both built
-for release. The memory is not cleared before: it holds what the call before left there, and each call clears its own W
-bytes, 9,600 for the training table and 2,360,320 for the others. The budget is the largest number there is. The
-checked claim is the written one, of exactly the table's facts; where the verdict is possible, the answer is 11.
+Processor time in milliseconds: the best of several runs, at least five, of both in turn in one
+process, both built for release. The memory is not cleared before: it holds what the call before
+left there, and each call clears its own W bytes, 9,600 for the training table and 2,360,320 for the
+others. The budget is the largest number there is. The checked claim is the written one, of exactly
+the table's facts; where the verdict is possible, the answer is 11.
 
 Machine: {}.
 
-| table | facts | verdict | check: {one} | {two} | ratio | claim check: {one} | {two} | ratio | what it is |
-|---|--:|---|--:|--:|--:|--:|--:|--:|---|
+| table | facts | verdict | check: {one} | {two} | ratio | claim check: {one} | {two} | ratio |
+|---|--:|---|--:|--:|--:|--:|--:|--:|
 ",
         machine(),
         one = one.name,
         two = two.name,
     );
+    let mut list = String::new();
     let near = NEAR.iter().enumerate();
     let near = near.map(|(i, about)| (format!("near{}", i + 1), *about));
     for (name, about) in [("training".to_string(), "the built-in table")]
@@ -36,9 +38,10 @@ Machine: {}.
     {
         let model = by_name(&name).ok_or("a table is missing")?;
         let row = row(one, two, &model).ok_or(format!("they differ on {name}"))?;
-        text.push_str(&format!("| {name} | {row} | {about} |\n"));
+        text.push_str(&format!("| {name} | {row} |\n"));
+        list.push_str(&format!("- {name}: {about}\n"));
     }
-    Ok(text)
+    Ok(text + "\n" + &list)
 }
 
 /// The columns of one table, or `None` where the two differ.
