@@ -6,11 +6,11 @@ use Prim.Native.Nat.{ℕ}
 use contract.Lifetimes.{Lfts}
 use denote.Triple.Clauses.{AtExit}
 use borrow.Fn.Kinds.{Dens, endedOf}
-use Rattle.inputs.specs.Names.{Same}
+use Rattle.inputs.specs.Names.{SameName}
 use Rattle.inputs.proofs.names.same_name.Reads as same-name
 use Rattle.inputs.proofs.names.same_name.Kinds as same-name-kinds
 
-same-unique : (a b : List ℕ) (r r′ : Bool) → Same a b r → Same a b r′ → r ≡ r′
+same-unique : (a b : List ℕ) (r r′ : Bool) → SameName a b r → SameName a b r′ → r ≡ r′
 same-unique a b true true s t = refl
 same-unique a b true false s t = absurd (t s)
 same-unique a b false true s t = absurd (s t)

@@ -4,6 +4,6 @@ use mathlib.Core.Bool.{Bool, true, false}
 use mathlib.Core.List.{List}
 use Prim.Native.Nat.{ℕ}
 
-abbrev pub Same : List ℕ → List ℕ → Bool → Type 0
-Same a b true = a ≡ b
-Same a b false = ¬ (a ≡ b)
+abbrev pub SameName : List ℕ → List ℕ → Bool → Type 0
+SameName a b true = a ≡ b
+SameName a b false = ¬ (a ≡ b)

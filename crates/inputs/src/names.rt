@@ -1,9 +1,9 @@
 // Names of files.
-ghost use Rattle.inputs.specs.Names.{Same};
+ghost use Rattle.inputs.specs.Names.{SameName};
 
 // Whether two names are the same, byte by byte.
 pub fn same_name(a: &[u8], b: &[u8]) -> bool
-    ensures { λ r. ⌜ Same (now (a .entry)) (now (b .entry)) r ⌝ }
+    ensures { λ r. ⌜ SameName (now (a .entry)) (now (b .entry)) r ⌝ }
 {
     if a.len() != b.len() {
         return false;
