@@ -1,9 +1,9 @@
 -- Laws of cells and rows, and the invariant of the loop that reads a row through a reader.
---     cell-read                what a number that was read gives for a column is the cell at its place
---     within-cell, below-cell  a number that is asked for its column's range is the column's cell, and fits a byte
---     cell-past                past a cell that was read, a reader stands where the cell ends
---     onward-none, -push       what was read before, in front of what is read then
---     row-none, -step, -stop   what `row_at` gives, by its first cell
+--     cell_read                what a number that was read gives for a column is the cell at its place
+--     within_cell, below_cell  a number that is asked for its column's range is the column's cell, and fits a byte
+--     cell_past                past a cell that was read, a reader stands where the cell ends
+--     onward_none, _push       what was read before, in front of what is read then
+--     row_none, _step, _stop   what `row_at` gives, by its first cell
 --     Filling, fill-…          the row's cells up to column j are read, and the rest stands where the reader does
 use mathlib.Core.Path.{◌≡◌, refl, sym, ap, ◌∙◌}
 use mathlib.Core.List.{List, [], ◌∷◌, ◌++◌, append-nil}
@@ -16,56 +16,56 @@ use lib.Seq.{sets, append_snoc, drop-cons, drop-length}
 use Rattle.numbers.specs.declared.refusals.Refusal.{Refusal}
 use Rattle.numbers.specs.declared.reading.Read.{Read}
 use Rattle.numbers.specs.declared.reading.Read.TheVariants.{Value, Refused}
-use Rattle.numbers.specs.Reading.{Out, got, bad, numberAt, field_at, read_of}
-use Rattle.numbers.proofs.PutLaws.{sets-append}
+use Rattle.numbers.specs.Reading.{Out, got, bad, number_at, field_at, read_of}
+use Rattle.numbers.proofs.PutLaws.{sets_append}
 use Rattle.reader.specs.declared.Reader.{Reader}
 use Rattle.reader.specs.Places.{past_of}
-use Rattle.reader.specs.Ranges.{rangedOf}
-use Rattle.reader.specs.Readers.{movedOn}
-use Rattle.reader.proofs.RangeLaws.{ranged-field, ranged-got}
+use Rattle.reader.specs.Ranges.{ranged_of}
+use Rattle.reader.specs.Readers.{moved_on}
+use Rattle.reader.proofs.RangeLaws.{ranged_field, ranged_got}
 use Rattle.cells.specs.declared.columns.Column.{Column}
 use Rattle.cells.specs.declared.columns.Column.TheVariants.{Within, Below, Absent}
 use Rattle.cells.specs.Rows.{push, cell_at, row_at}
-use Rattle.cells.specs.Answers.{noCells}
-use Rattle.cells.specs.Passing.{pastCell, pastRow}
-use Rattle.cells.specs.Stages.{cell_of, FitsByte, columnAt}
-use Rattle.cells.proofs.RowMemory.{sets-whole}
+use Rattle.cells.specs.Answers.{no_cells}
+use Rattle.cells.specs.Passing.{past_cell, past_row}
+use Rattle.cells.specs.Stages.{cell_of, FitsByte, column_at}
+use Rattle.cells.proofs.RowMemory.{sets_whole}
 
 -- ---- a cell
 
-pub cell-read : (c : Column) (s : List ℕ) (at : ℕ) → cell_of c at (read_of (numberAt s at)) ≡ read_of (cell_at c s at)
+pub cell_read : (c : Column) (s : List ℕ) (at : ℕ) → cell_of c at (read_of (number_at s at)) ≡ read_of (cell_at c s at)
 unfolding cell_at
-cell-read (Within low most) s at = ranged-field at low (most + 1) s
-cell-read (Below end) s at = ranged-field at 0 end s
-cell-read Absent s at = refl
+cell_read (Within low most) s at = ranged_field at low (most + 1) s
+cell_read (Below end) s at = ranged_field at 0 end s
+cell_read Absent s at = refl
 
 -- a number that was taken is below its range's end
-fits_byte : (x read : Read) (at low end : ℕ) → x ≡ rangedOf at low end read → end ≤ 256 → FitsByte x
-fits_byte (Value v n) read at low end e h = omega (arith, (ranged-got at low end read v n e).1)
+fits_byte : (x read : Read) (at low end : ℕ) → x ≡ ranged_of at low end read → end ≤ 256 → FitsByte x
+fits_byte (Value v n) read at low end e h = omega (arith, (ranged_got at low end read v n e).1)
 fits_byte (Refused r) read at low end e h = tt
 
 module _ {x : Read} {c : Column} (at : ℕ) (read : Read) where
-  pub within-cell : {low most : ℕ} → c ≡ Within low most → most < 256 → x ≡ rangedOf at low (most + 1) read → (x ≡ cell_of c at read) × FitsByte x
-  within-cell {low} {most} q h e = (rw q e, fits_byte x read at low (most + 1) e (omega arith))
+  pub within_cell : {low most : ℕ} → c ≡ Within low most → most < 256 → x ≡ ranged_of at low (most + 1) read → (x ≡ cell_of c at read) × FitsByte x
+  within_cell {low} {most} q h e = (rw q e, fits_byte x read at low (most + 1) e (omega arith))
 
-  pub below-cell : {end : ℕ} → c ≡ Below end → end < 256 → x ≡ rangedOf at 0 end read → (x ≡ cell_of c at read) × FitsByte x
-  below-cell {end} q h e = (rw q e, fits_byte x read at 0 end e (omega arith))
+  pub below_cell : {end : ℕ} → c ≡ Below end → end < 256 → x ≡ ranged_of at 0 end read → (x ≡ cell_of c at read) × FitsByte x
+  below_cell {end} q h e = (rw q e, fits_byte x read at 0 end e (omega arith))
 
 -- a reader at the place n
 abbrev pub to : Reader → ℕ → Reader
 to r n = record { src = r.src; at = n }
 
-field_past : (r : Reader) (low end : ℕ) {v n : ℕ} → field_at r.src.now r.at low end ≡ got v n → movedOn r ≡ to r n
+field_past : (r : Reader) (low end : ℕ) {v n : ℕ} → field_at r.src.now r.at low end ≡ got v n → moved_on r ≡ to r n
 field_past r low end {v} {n} e =
     let s = r.src.now in
-    let taken : Value v n ≡ rangedOf r.at low end (read_of (numberAt s r.at)) = sym (ranged-field r.at low end s ∙ ap read_of e) in
-    ap (λ (read : Read). to r (past_of r.at read)) (ranged-got r.at low end (read_of (numberAt s r.at)) v n taken).0
+    let taken : Value v n ≡ ranged_of r.at low end (read_of (number_at s r.at)) = sym (ranged_field r.at low end s ∙ ap read_of e) in
+    ap (λ (read : Read). to r (past_of r.at read)) (ranged_got r.at low end (read_of (number_at s r.at)) v n taken).0
 
-pub cell-past : (c : Column) (r : Reader) {v n : ℕ} → cell_at c r.src.now r.at ≡ got v n → pastCell c r ≡ to r n
+pub cell_past : (c : Column) (r : Reader) {v n : ℕ} → cell_at c r.src.now r.at ≡ got v n → past_cell c r ≡ to r n
 unfolding cell_at
-cell-past (Within low most) r e = field_past r low (most + 1) e
-cell-past (Below end) r e = field_past r 0 end e
-cell-past Absent r {v} {n} e = let place : r.at ≡ n = cc in ap (to r) place
+cell_past (Within low most) r e = field_past r low (most + 1) e
+cell_past (Below end) r e = field_past r 0 end e
+cell_past Absent r {v} {n} e = let place : r.at ≡ n = cc in ap (to r) place
 
 -- ---- what was read before, in front of what is read then
 
@@ -73,13 +73,13 @@ abbrev pub onward : {A : Type 0} → List A → Out (List A) → Out (List A)
 onward xs (got ys n) = got (xs ++ ys) n
 onward xs (bad r) = bad r
 
-pub onward-none : {A : Type 0} (o : Out (List A)) → o ≡ onward [] o
-onward-none (got ys n) = refl
-onward-none (bad r) = refl
+pub onward_none : {A : Type 0} (o : Out (List A)) → o ≡ onward [] o
+onward_none (got ys n) = refl
+onward_none (bad r) = refl
 
-pub onward-push : {A : Type 0} (xs : List A) (v : A) (o : Out (List A)) → onward xs (push v o) ≡ onward (xs ++ (v ∷ [])) o
-onward-push {A} xs v (got ys n) = ap (λ (l : List A). got l n) (sym (append_snoc xs v ys))
-onward-push xs v (bad r) = refl
+pub onward_push : {A : Type 0} (xs : List A) (v : A) (o : Out (List A)) → onward xs (push v o) ≡ onward (xs ++ (v ∷ [])) o
+onward_push {A} xs v (got ys n) = ap (λ (l : List A). got l n) (sym (append_snoc xs v ys))
+onward_push xs v (bad r) = refl
 
 -- ---- the loop over the columns
 
@@ -87,29 +87,29 @@ pub row_step : (c : Column) (cs : List Column) (s : List ℕ) (p : ℕ) {v n : �
 unfolding row_at
 row_step c cs s p e = rw e
 
-pub row-stop : (c : Column) (cs : List Column) (s : List ℕ) (p : ℕ) {r : Refusal} → cell_at c s p ≡ bad r → row_at (c ∷ cs) s p ≡ bad r
+pub row_stop : (c : Column) (cs : List Column) (s : List ℕ) (p : ℕ) {r : Refusal} → cell_at c s p ≡ bad r → row_at (c ∷ cs) s p ≡ bad r
 unfolding row_at
-row-stop c cs s p e = rw e
+row_stop c cs s p e = rw e
 
-pub row-none : (s : List ℕ) (p : ℕ) → row_at [] s p ≡ got [] p
+pub row_none : (s : List ℕ) (p : ℕ) → row_at [] s p ≡ got [] p
 unfolding row_at
-row-none s p = refl
+row_none s p = refl
 
-pub past-step : (c : Column) (cs : List Column) (r : Reader) {v n : ℕ} → cell_at c r.src.now r.at ≡ got v n
-    → pastRow (c ∷ cs) r ≡ pastRow cs (pastCell c r)
-unfolding pastRow
-past-step c cs r e = rw e
+pub past_step : (c : Column) (cs : List Column) (r : Reader) {v n : ℕ} → cell_at c r.src.now r.at ≡ got v n
+    → past_row (c ∷ cs) r ≡ past_row cs (past_cell c r)
+unfolding past_row
+past_step c cs r e = rw e
 
-past_stop : (c : Column) (cs : List Column) (r : Reader) {x : Refusal} → cell_at c r.src.now r.at ≡ bad x → pastRow (c ∷ cs) r ≡ pastCell c r
-unfolding pastRow
+past_stop : (c : Column) (cs : List Column) (r : Reader) {x : Refusal} → cell_at c r.src.now r.at ≡ bad x → past_row (c ∷ cs) r ≡ past_cell c r
+unfolding past_row
 past_stop c cs r e = rw e
 
-pub past-none : (r : Reader) → pastRow [] r ≡ r
-unfolding pastRow
-past-none r = refl
+pub past_none : (r : Reader) → past_row [] r ≡ r
+unfolding past_row
+past_none r = refl
 
-pub drop-column : (cs : List Column) (j : ℕ) → j < length cs → drop j cs ≡ columnAt cs j ∷ drop (suc j) cs
-drop-column cs j h = drop-cons cs j (Within 0 0) h
+pub drop_column : (cs : List Column) (j : ℕ) → j < length cs → drop j cs ≡ column_at cs j ∷ drop (suc j) cs
+drop_column cs j h = drop-cons cs j (Within 0 0) h
 
 pub record Filling (cs : List Column) (r₀ : Reader) (cells : List ℕ) (r : Reader) (j : ℕ) : Type 0 where
   pub five : length cs ≡ 5
@@ -117,40 +117,40 @@ pub record Filling (cs : List Column) (r₀ : Reader) (cells : List ℕ) (r : Re
   pub many : length done ≡ j
   pub up : j ≤ 5
   pub same : row_at cs r₀.src.now r₀.at ≡ onward done (row_at (drop j cs) r.src.now r.at)
-  pub moved : pastRow cs r₀ ≡ pastRow (drop j cs) r
-  pub held : cells ≡ sets noCells 0 done
+  pub moved : past_row cs r₀ ≡ past_row (drop j cs) r
+  pub held : cells ≡ sets no_cells 0 done
 
 module _ {cs : List Column} {r₀ : Reader} where
-  pub fill_start : length cs ≡ 5 → Filling cs r₀ noCells r₀ 0
+  pub fill_start : length cs ≡ 5 → Filling cs r₀ no_cells r₀ 0
   fill_start five =
-      record { five = five; done = []; many = refl; up = omega arith; same = onward-none _; moved = refl; held = refl }
+      record { five = five; done = []; many = refl; up = omega arith; same = onward_none _; moved = refl; held = refl }
 
   module _ {cells : List ℕ} {r : Reader} {j : ℕ} (f : Filling cs r₀ cells r j) where
     module _ (h : j < 5) where
-      pub next-column : drop j cs ≡ columnAt cs j ∷ drop (suc j) cs
-      next-column = drop-column cs j (omega (arith, f.five))
+      pub next_column : drop j cs ≡ column_at cs j ∷ drop (suc j) cs
+      next_column = drop_column cs j (omega (arith, f.five))
 
-      pub fill_more : {v n : ℕ} → cell_at (columnAt cs j) r.src.now r.at ≡ got v n
-          → Filling cs r₀ (set cells j v) (pastCell (columnAt cs j) r) (j + 1)
+      pub fill_more : {v n : ℕ} → cell_at (column_at cs j) r.src.now r.at ≡ got v n
+          → Filling cs r₀ (set cells j v) (past_cell (column_at cs j) r) (j + 1)
       fill_more {v} {n} e =
-          let c = columnAt cs j in
+          let c = column_at cs j in
           record {
             five = f.five;
             done = f.done ++ (v ∷ []);
             many = length-append f.done (v ∷ []) ∙ ap (λ (m : ℕ). m + 1) f.many;
             up = omega arith;
-            same = f.same ∙ rw (next-column, row_step c _ _ _ e, add-one j, cell-past c r e)
-                (onward-push f.done v (row_at (drop (suc j) cs) r.src.now n));
-            moved = f.moved ∙ rw (next-column, add-one j) (past-step c _ r e);
-            held = rw (f.held, ← f.many) (rw (zero-add (length f.done)) at (sets-append f.done (v ∷ []) noCells 0));
+            same = f.same ∙ rw (next_column, row_step c _ _ _ e, add-one j, cell_past c r e)
+                (onward_push f.done v (row_at (drop (suc j) cs) r.src.now n));
+            moved = f.moved ∙ rw (next_column, add-one j) (past_step c _ r e);
+            held = rw (f.held, ← f.many) (rw (zero-add (length f.done)) at (sets_append f.done (v ∷ []) no_cells 0));
           }
 
-      pub fill-bad : {x : Refusal} → cell_at (columnAt cs j) r.src.now r.at ≡ bad x
-          → (row_at cs r₀.src.now r₀.at ≡ bad x) × (pastRow cs r₀ ≡ pastCell (columnAt cs j) r)
-      fill-bad e = (f.same ∙ rw (next-column, row-stop _ _ _ _ e), f.moved ∙ rw (next-column) (past_stop _ _ _ e))
+      pub fill_bad : {x : Refusal} → cell_at (column_at cs j) r.src.now r.at ≡ bad x
+          → (row_at cs r₀.src.now r₀.at ≡ bad x) × (past_row cs r₀ ≡ past_cell (column_at cs j) r)
+      fill_bad e = (f.same ∙ rw (next_column, row_stop _ _ _ _ e), f.moved ∙ rw (next_column) (past_stop _ _ _ e))
 
-    pub fill_end : 5 ≤ j → (row_at cs r₀.src.now r₀.at ≡ got cells r.at) × (pastRow cs r₀ ≡ r)
+    pub fill_end : 5 ≤ j → (row_at cs r₀.src.now r₀.at ≡ got cells r.at) × (past_row cs r₀ ≡ r)
     fill_end h =
         let last : j ≡ length cs = omega (arith, f.five, f.up) in
-        let whole : cells ≡ f.done = f.held ∙ sets-whole f.done noCells (omega (arith, f.many, f.up)) in
-        (f.same ∙ rw (last, drop-length, row-none, append-nil, whole), f.moved ∙ rw (last, drop-length) (past-none r))
+        let whole : cells ≡ f.done = f.held ∙ sets_whole f.done no_cells (omega (arith, f.many, f.up)) in
+        (f.same ∙ rw (last, drop-length, row_none, append-nil, whole), f.moved ∙ rw (last, drop-length) (past_none r))

@@ -15,8 +15,8 @@ use Rattle.reader.specs.declared.Reader.{Reader}
 use Rattle.cells.specs.declared.columns.Column.{Column}
 use Rattle.cells.specs.declared.row.RowRead.{RowRead}
 use Rattle.cells.specs.Rows.{row_at}
-use Rattle.cells.specs.Answers.{rowReadOf}
-use Rattle.cells.specs.Passing.{pastRow}
+use Rattle.cells.specs.Answers.{row_read_of}
+use Rattle.cells.specs.Passing.{past_row}
 use Rattle.numbers.proofs.Unique.{same, Fixes}
 use Rattle.cells.proofs.columns.of_thread.Reads as of-thread
 use Rattle.cells.proofs.columns.of_thread.Kinds as of-thread-kinds
@@ -38,42 +38,42 @@ use Rattle.cells.proofs.row.row_after.Kinds as row-after-kinds
 
 -- ---- with plain parameters
 
-pub of-thread-fixes : Fixes of-thread-kinds.ps of-thread-kinds.r of-thread.Post
-of-thread-fixes κs a x x' s s' = same
+pub of_thread_fixes : Fixes of-thread-kinds.ps of-thread-kinds.r of-thread.Post
+of_thread_fixes κs a x x' s s' = same
 
-pub step-columns-fixes : Fixes step-columns-kinds.ps step-columns-kinds.r step-columns.Post
-step-columns-fixes κs a x x' s s' = same
+pub step_columns_fixes : Fixes step-columns-kinds.ps step-columns-kinds.r step-columns.Post
+step_columns_fixes κs a x x' s s' = same
 
-pub push-columns-fixes : Fixes push-columns-kinds.ps push-columns-kinds.r push-columns.Post
-push-columns-fixes κs a x x' s s' = same
+pub push_columns_fixes : Fixes push-columns-kinds.ps push-columns-kinds.r push-columns.Post
+push_columns_fixes κs a x x' s s' = same
 
-pub pop-columns-fixes : Fixes pop-columns-kinds.ps pop-columns-kinds.r pop-columns.Post
-pop-columns-fixes κs a x x' s s' = same
+pub pop_columns_fixes : Fixes pop-columns-kinds.ps pop-columns-kinds.r pop-columns.Post
+pop_columns_fixes κs a x x' s s' = same
 
-pub error-columns-fixes : Fixes error-columns-kinds.ps error-columns-kinds.r error-columns.Post
-error-columns-fixes κs a x x' s s' = same
+pub error_columns_fixes : Fixes error-columns-kinds.ps error-columns-kinds.r error-columns.Post
+error_columns_fixes κs a x x' s s' = same
 
-pub no-row-fixes : Fixes no-row-kinds.ps no-row-kinds.r no_row.Post
-no-row-fixes κs a x x' s s' = same
+pub no_row_fixes : Fixes no-row-kinds.ps no-row-kinds.r no_row.Post
+no_row_fixes κs a x x' s s' = same
 
-pub row-fixes : Fixes row-kinds.ps row-kinds.r row.Post
-row-fixes κs a x x' s s' = same
+pub row_fixes : Fixes row-kinds.ps row-kinds.r row.Post
+row_fixes κs a x x' s s' = same
 
-pub row-after-fixes : Fixes row-after-kinds.ps row-after-kinds.r row-after.Post
-row-after-fixes κs a x x' s s' = same
+pub row_after_fixes : Fixes row-after-kinds.ps row-after-kinds.r row-after.Post
+row_after_fixes κs a x x' s s' = same
 
 -- ---- over a reader: what the contract says, in its text
 
 -- the answer of `row_through`, and the reader at exit
 abbrev pub RowReadOn : List Column → Reader → RowRead → Reader → Type 0
-RowReadOn cs r x r' = (x ≡ rowReadOf (row_at cs r.src.now r.at)) × (r' ≡ pastRow cs r)
+RowReadOn cs r x r' = (x ≡ row_read_of (row_at cs r.src.now r.at)) × (r' ≡ past_row cs r)
 
-pub row-through-unique : (cs : List Column) (r : Reader) (x x' : RowRead) (end end' : Reader)
+pub row_through_unique : (cs : List Column) (r : Reader) (x x' : RowRead) (end end' : Reader)
     → RowReadOn cs r x end → RowReadOn cs r x' end' → (x ≡ x') × (end ≡ end')
-row-through-unique cs r x x' end end' p q = (same p.0 q.0, same p.1 q.1)
+row_through_unique cs r x x' end end' p q = (same p.0 q.0, same p.1 q.1)
 
 -- and this is the contract: the clause that the prover reads from the source is that fact
 module _ {M : Type 1} {𝓤 : Ura M} (𝓛 : Logic 𝓤) (mem : Memory → SProp 𝓤) (run : Routine → Fun 𝓤) where
-  pub row-through-says : (κs : Lfts 2) (a : Args row-through.signature κs) (x : RowRead) (s : AtExit row-through.ended κs)
+  pub row_through_says : (κs : Lfts 2) (a : Args row-through.signature κs) (x : RowRead) (s : AtExit row-through.ended κs)
       → (row-through.clauses 𝓛 mem run κs a).ensures tt x s ≡ fact 𝓤 (RowReadOn a.1.0 a.0.now x s.0.now)
-  row-through-says κs a x s = refl
+  row_through_says κs a x s = refl

@@ -4,9 +4,9 @@ use Rattle.numbers.specs.Reading.{Out, got, bad}
 use Rattle.reader.specs.declared.ends.End.TheVariants.{Past, Refused}
 use Rattle.cells.specs.declared.row.RowRead.{RowRead}
 
-abbrev pub noCells : List ℕ
-noCells = 0 ∷ 0 ∷ 0 ∷ 0 ∷ 0 ∷ []
+abbrev pub no_cells : List ℕ
+no_cells = 0 ∷ 0 ∷ 0 ∷ 0 ∷ 0 ∷ []
 
-abbrev pub rowReadOf : Out (List ℕ) → RowRead
-rowReadOf (got r next) = record { cells = r; end = Past next }
-rowReadOf (bad x) = record { cells = noCells; end = Refused x }
+abbrev pub row_read_of : Out (List ℕ) → RowRead
+row_read_of (got r next) = record { cells = r; end = Past next }
+row_read_of (bad x) = record { cells = no_cells; end = Refused x }

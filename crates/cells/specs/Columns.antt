@@ -12,25 +12,25 @@ OutOf (Below end) v = end ≤ v
 OutOf Absent v = ⊥
 
 -- the column of thread t, where there are n threads
-abbrev pub ofThread : ℕ → ℕ → Column → Column
-ofThread n t c = pick (ltb t n) c Absent
+abbrev pub of_thread : ℕ → ℕ → Column → Column
+of_thread n t c = pick (ltb t n) c Absent
 
 -- one column for each thread
-abbrev pub perThread : ℕ → Column → List Column → List Column
-perThread n c rest = ofThread n 0 c ∷ ofThread n 1 c ∷ ofThread n 2 c ∷ ofThread n 3 c ∷ rest
+abbrev pub per_thread : ℕ → Column → List Column → List Column
+per_thread n c rest = of_thread n 0 c ∷ of_thread n 1 c ∷ of_thread n 2 c ∷ of_thread n 3 c ∷ rest
 
 -- in rows, t is below n, shared stores below G, local stores below L, f below F. Step rows: t, g, l, g', l'
-abbrev pub stepColumns : Sizes → List Column
-stepColumns z = Below z.threads ∷ Below z.shared ∷ Below z.locals ∷ Below z.shared ∷ Below z.locals ∷ []
+abbrev pub step_columns : Sizes → List Column
+step_columns z = Below z.threads ∷ Below z.shared ∷ Below z.locals ∷ Below z.shared ∷ Below z.locals ∷ []
 
 -- push rows: t, g, l, l', f
-abbrev pub pushColumns : Sizes → List Column
-pushColumns z = Below z.threads ∷ Below z.shared ∷ Below z.locals ∷ Below z.locals ∷ Below z.frames ∷ []
+abbrev pub push_columns : Sizes → List Column
+push_columns z = Below z.threads ∷ Below z.shared ∷ Below z.locals ∷ Below z.locals ∷ Below z.frames ∷ []
 
 -- pop rows: t, g, l, f, l'
-abbrev pub popColumns : Sizes → List Column
-popColumns z = Below z.threads ∷ Below z.shared ∷ Below z.locals ∷ Below z.frames ∷ Below z.locals ∷ []
+abbrev pub pop_columns : Sizes → List Column
+pop_columns z = Below z.threads ∷ Below z.shared ∷ Below z.locals ∷ Below z.frames ∷ Below z.locals ∷ []
 
 -- error rows: a shared cell 0..G, and a cell 0..L per thread
-abbrev pub errorColumns : Sizes → List Column
-errorColumns z = Within 0 z.shared ∷ perThread z.threads (Within 0 z.locals) []
+abbrev pub error_columns : Sizes → List Column
+error_columns z = Within 0 z.shared ∷ per_thread z.threads (Within 0 z.locals) []

@@ -1,6 +1,6 @@
 // The columns of the rows of a list: how many numbers a row has, and the range of each.
 ghost use Rattle.std.specs.Prelude.{◌≡◌};
-ghost use Rattle.cells.specs.Columns.{ofThread, stepColumns, pushColumns, popColumns, errorColumns};
+ghost use Rattle.cells.specs.Columns.{of_thread, step_columns, push_columns, pop_columns, error_columns};
 
 // A column of a row. One that is not there takes no bytes.
 #[derive(Drop)]
@@ -21,7 +21,7 @@ pub struct Sizes {
 
 // The column of thread t, where there are n threads.
 pub fn of_thread(n: u8, t: u8, column: Column) -> Column
-    ensures { result ≡ ofThread n t column }
+    ensures { result ≡ of_thread n t column }
 {
     if t < n {
         return column;
@@ -31,7 +31,7 @@ pub fn of_thread(n: u8, t: u8, column: Column) -> Column
 
 // A step row: t, g, l, g', l'.
 pub fn step_columns(z: Sizes) -> [Column; 5]
-    ensures { result ≡ stepColumns z }
+    ensures { result ≡ step_columns z }
 {
     let thread = Column::Below { end: z.threads };
     let shared = Column::Below { end: z.shared };
@@ -41,7 +41,7 @@ pub fn step_columns(z: Sizes) -> [Column; 5]
 
 // A push row: t, g, l, l', f.
 pub fn push_columns(z: Sizes) -> [Column; 5]
-    ensures { result ≡ pushColumns z }
+    ensures { result ≡ push_columns z }
 {
     let thread = Column::Below { end: z.threads };
     let shared = Column::Below { end: z.shared };
@@ -52,7 +52,7 @@ pub fn push_columns(z: Sizes) -> [Column; 5]
 
 // A pop row: t, g, l, f, l'.
 pub fn pop_columns(z: Sizes) -> [Column; 5]
-    ensures { result ≡ popColumns z }
+    ensures { result ≡ pop_columns z }
 {
     let thread = Column::Below { end: z.threads };
     let shared = Column::Below { end: z.shared };
@@ -63,7 +63,7 @@ pub fn pop_columns(z: Sizes) -> [Column; 5]
 
 // An error row: a shared cell, and one for each thread.
 pub fn error_columns(z: Sizes) -> [Column; 5]
-    ensures { result ≡ errorColumns z }
+    ensures { result ≡ error_columns z }
 {
     let n = z.threads;
     let shared = Column::Within {

@@ -2,9 +2,9 @@
 ghost use Rattle.std.specs.Prelude.{◌≡◌, ◌<◌, ◌≤◌};
 ghost use Rattle.numbers.specs.Reading.{bad};
 ghost use Rattle.cells.specs.Rows.{row_at};
-ghost use Rattle.cells.specs.Answers.{rowReadOf};
-ghost use Rattle.cells.specs.Passing.{pastRow};
-ghost use Rattle.cells.specs.Stages.{cell_of, FitsByte, columnAt, dueFrom, begunAt, withCell};
+ghost use Rattle.cells.specs.Answers.{row_read_of};
+ghost use Rattle.cells.specs.Passing.{past_row};
+ghost use Rattle.cells.specs.Stages.{cell_of, FitsByte, column_at, due_from, begun_at, with_cell};
 ghost use Rattle.reader.specs.Ends.{after};
 
 use crate::columns::Column;
@@ -30,7 +30,7 @@ pub(crate) struct SoFar {
 
 // A row that is refused.
 pub fn no_row(refusal: Refusal) -> RowRead
-    ensures { result ≡ rowReadOf (bad refusal) }
+    ensures { result ≡ row_read_of (bad refusal) }
 {
     RowRead {
         cells: [0; 5],
@@ -52,7 +52,7 @@ fn cell(column: Column, at: usize, read: Read) -> Read
 // The first column at or after `from` that is there; 5 where none is.
 fn due_from(columns: [Column; 5], from: usize) -> usize
     requires { from ≤ 5 }
-    ensures { result ≡ dueFrom columns from }
+    ensures { result ≡ due_from columns from }
 {
     let mut j = from;
     while j < 5 {
@@ -69,7 +69,7 @@ fn due_from(columns: [Column; 5], from: usize) -> usize
 
 // A row of which nothing is read, at `at`.
 fn begun(columns: [Column; 5], at: usize) -> SoFar
-    ensures { result ≡ begunAt columns at }
+    ensures { result ≡ begun_at columns at }
 {
     SoFar {
         row: RowRead {
@@ -83,7 +83,7 @@ fn begun(columns: [Column; 5], at: usize) -> SoFar
 // A row so far, with the number that was read at `at` for the column that is due. Where that is refused, so is the row, and no column is due.
 fn with_cell(sofar: SoFar, columns: [Column; 5], at: usize, read: Read) -> SoFar
     requires { sofar.due < 5 }
-    ensures { result ≡ withCell sofar columns (cell_of (columnAt columns sofar.due) at read) }
+    ensures { result ≡ with_cell sofar columns (cell_of (column_at columns sofar.due) at read) }
 {
     let j = sofar.due;
     let column = columns[j];
@@ -110,8 +110,8 @@ fn with_cell(sofar: SoFar, columns: [Column; 5], at: usize, read: Read) -> SoFar
 // The row where a reader stands, read through it: a cell for each column. The reader moves on past each whole number that a column asks for, up to the
 // first cell that is refused.
 pub fn row_through<'s, 'a>(r: &'s mut Reader<'a>, columns: [Column; 5]) -> RowRead
-    ensures { (result ≡ rowReadOf (row_at columns r.old.src.now r.old.at))
-        × (r.new ≡ pastRow columns r.old) }
+    ensures { (result ≡ row_read_of (row_at columns r.old.src.now r.old.at))
+        × (r.new ≡ past_row columns r.old) }
 {
     let mut sofar = begun(columns, r.at);
     while sofar.due < 5 {
@@ -124,7 +124,7 @@ pub fn row_through<'s, 'a>(r: &'s mut Reader<'a>, columns: [Column; 5]) -> RowRe
 
 // The row at `at`, read through a reader.
 pub fn row(src: &[u8], at: usize, columns: [Column; 5]) -> RowRead
-    ensures { result ≡ rowReadOf (row_at columns src.now at) }
+    ensures { result ≡ row_read_of (row_at columns src.now at) }
 {
     let mut r = reader::reader_at(src, at);
     row_through(&mut r, columns)
@@ -132,7 +132,7 @@ pub fn row(src: &[u8], at: usize, columns: [Column; 5]) -> RowRead
 
 // The row after a part of the file: where that was refused, so is the row.
 pub fn row_after(src: &[u8], before: End, columns: [Column; 5]) -> RowRead
-    ensures { result ≡ rowReadOf (after before (row_at columns src.now)) }
+    ensures { result ≡ row_read_of (after before (row_at columns src.now)) }
 {
     match before {
         End::Past { next } => row(src, next, columns),

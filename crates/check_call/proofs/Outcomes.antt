@@ -1,6 +1,6 @@
 -- From the first W bytes to the whole memory: what the engine leaves in the part that is lent to it, with the verdict, is what the check answers.
---     over-here, done-here                           a cleared part; a part that holds the least relations, with the verdict
---     answer-short, answer-over, answer-done         the answer, by the plan and by what the engine answers
+--     over_here, done_here                           a cleared part; a part that holds the least relations, with the verdict
+--     answer_short, answer_over, answer_done         the answer, by the plan and by what the engine answers
 use mathlib.Core.Path.{◌≡◌, sym, ap, ◌∙◌}
 use mathlib.Core.List.{List}
 use Prim.Native.Nat.{ℕ, ◌≤◌, ◌<◌}
@@ -13,56 +13,56 @@ use Rattle.model.specs.Memory.{Holds, Relations, FactCount, Exceeds}
 use Rattle.store.specs.Marking.{Clear}
 use Rattle.positions.specs.declared.plan.Plan.{Plan}
 use Rattle.positions.specs.Plans.{plan_of}
-use Rattle.store.proofs.MarkLaws.{clear-zeros}
-use Rattle.positions.proofs.PlanIsModel.{w-is}
+use Rattle.store.proofs.MarkLaws.{clear_zeros}
+use Rattle.positions.proofs.PlanIsModel.{w_is}
 use Rattle.engine.specs.declared.run.Answer.{Answer}
 use Rattle.engine.specs.declared.run.Answer.TheVariants as Ends
 use Rattle.engine.specs.Answers.{Ran}
 use Rattle.verdict.specs.declared.search.Verdict.{Verdict}
 use Rattle.verdict.specs.ErrorRows.{Judged}
-use Rattle.verdict.proofs.Answers.{judged-least}
+use Rattle.verdict.proofs.Answers.{judged_least}
 use Rattle.check_call.specs.declared.answer.Answer.TheVariants.{Done, Short, Over}
 use Rattle.check_call.specs.Checking.{OfTable, short, over, done}
 
 module _ (T : Table) (budget : ℕ) (m m' : List ℕ) (room : W T ≤ length m) (long : length m' ≡ length m) (rest : drop (W T) m' ≡ drop (W T) m) where
-  pub over-here : Clear (take (W T) m') → Exceeds T budget → OfTable T budget m (Over budget) m'
-  over-here c x =
+  pub over_here : Clear (take (W T) m') → Exceeds T budget → OfTable T budget m (Over budget) m'
+  over_here c x =
       let e : length (take (W T) m') ≡ W T = length-take-le (W T) m' (omega arith) in
-      over room x (record { zeros = clear-zeros (take (W T) m') c ∙ ap (λ (w : ℕ). replicate w 0) e; rest = rest })
+      over room x (record { zeros = clear_zeros (take (W T) m') c ∙ ap (λ (w : ℕ). replicate w 0) e; rest = rest })
 
   -- what the part holds, the whole holds
-  whole-holds : {S : Fact → Type 0} → Holds T S (take (W T) m') → Holds T S m'
-  whole-holds {S} h =
+  whole_holds : {S : Fact → Type 0} → Holds T S (take (W T) m') → Holds T S m'
+  whole_holds {S} h =
       record {
         long = omega arith;
         says = λ p l. rw (sym (get_or-take (W T) m' p 0 l)) (h.says p l);
       }
 
-  pub done-here : {count : ℕ} {verdict : Verdict} → Sound T → Relations T (take (W T) m') → FactCount T count → count ≤ budget
+  pub done_here : {count : ℕ} {verdict : Verdict} → Sound T → Relations T (take (W T) m') → FactCount T count → count ≤ budget
       → Judged T m' verdict → OfTable T budget m (Done count verdict) m'
-  done-here sound r k l j =
-      done room (record { counted = k; within = l; relations = whole-holds r; rest = rest; judged = judged-least sound (whole-holds r) j })
+  done_here sound r k l j =
+      done room (record { counted = k; within = l; relations = whole_holds r; rest = rest; judged = judged_least sound (whole_holds r) j })
 
 -- ---- by the plan, and by what the engine answers
 
-pub w-by : (T : Table) {s : Plan} → s ≡ plan_of T → s.w ≡ W T
-w-by T plan = ap (λ (x : Plan). x.w) plan ∙ w-is T
+pub w_by : (T : Table) {s : Plan} → s ≡ plan_of T → s.w ≡ W T
+w_by T plan = ap (λ (x : Plan). x.w) plan ∙ w_is T
 
 module _ (T : Table) (s : Plan) (budget : ℕ) (m m' : List ℕ) (sound : Sound T) (plan : s ≡ plan_of T) (room : s.w ≤ length m)
     (long : length m' ≡ length m) (rest : drop s.w m' ≡ drop s.w m) where
-  pub answer-over : {r : Answer} → r ≡ Ends.Over → Ran T budget r (take s.w m') → OfTable T budget m (Over budget) m'
-  answer-over q ran =
-      let e = w-by T plan in
+  pub answer_over : {r : Answer} → r ≡ Ends.Over → Ran T budget r (take s.w m') → OfTable T budget m (Over budget) m'
+  answer_over q ran =
+      let e = w_by T plan in
       let (c, x) = rw (q, e) at ran in
-      over-here T budget m m' (rw e at room) long (rw e at rest) c x
+      over_here T budget m m' (rw e at room) long (rw e at rest) c x
 
-  pub answer-done : {r : Answer} {count : ℕ} {verdict : Verdict} → r ≡ Ends.Done count → Ran T budget r (take s.w m')
+  pub answer_done : {r : Answer} {count : ℕ} {verdict : Verdict} → r ≡ Ends.Done count → Ran T budget r (take s.w m')
       → Judged T m' verdict → OfTable T budget m (Done count verdict) m'
-  answer-done q ran j =
-      let e = w-by T plan in
+  answer_done q ran j =
+      let e = w_by T plan in
       let (h, k, l) = rw (q, e) at ran in
-      done-here T budget m m' (rw e at room) long (rw e at rest) sound h k l j
+      done_here T budget m m' (rw e at room) long (rw e at rest) sound h k l j
 
 -- a memory that is shorter than the room
-pub answer-short : {T : Table} {budget w : ℕ} {m : List ℕ} → w ≡ W T → length m < w → OfTable T budget m (Short w) m
-answer-short e l = rw e (short (rw e at l))
+pub answer_short : {T : Table} {budget w : ℕ} {m : List ℕ} → w ≡ W T → length m < w → OfTable T budget m (Short w) m
+answer_short e l = rw e (short (rw e at l))

@@ -14,11 +14,11 @@ use Rattle.numbers.proofs.ReadingLaws.{never}
 use Rattle.numbers.proofs.Unique.{same, Fixes}
 use Rattle.files.specs.Table.{Table, Sound, W}
 use Rattle.files.specs.File.{table_at}
-use Rattle.files.proofs.TableLaws.{table-sound}
-use Rattle.model.proofs.Memory.{exceeds-count}
-use Rattle.model.proofs.Unique.{holds_same, fact-count-same}
+use Rattle.files.proofs.TableLaws.{table_sound}
+use Rattle.model.proofs.Memory.{exceeds_count}
+use Rattle.model.proofs.Unique.{holds_same, fact_count_same}
 use Rattle.store.proofs.Unique.{parts_same}
-use Rattle.verdict.proofs.Answers.{answers-same}
+use Rattle.verdict.proofs.Answers.{answers_same}
 use Rattle.check_call.specs.declared.answer.Answer.{Answer}
 use Rattle.check_call.specs.declared.answer.Answer.TheVariants.{Done, Refused}
 use Rattle.check_call.proofs.answer.reply_of.Reads as reply-of
@@ -47,64 +47,64 @@ alike_same unchanged = refl
 alike_same {w} (changed e r r') = parts_same w e (r ∙ sym r')
 
 module _ {T : Table} (sound : Sound T) {budget : ℕ} where
-  table-alike : {m n m₁ n₁ : List ℕ} {a b : Answer} → length m ≡ length n → OfTable T budget m a m₁ → OfTable T budget n b n₁
+  table_alike : {m n m₁ n₁ : List ℕ} {a b : Answer} → length m ≡ length n → OfTable T budget m a m₁ → OfTable T budget n b n₁
       → (a ≡ b) × Alike (W T) m n m₁ n₁
-  table-alike e (short l) (short l') = (refl, unchanged)
-  table-alike e (short l) (over h x c) = absurd (omega arith)
-  table-alike e (short l) (done h f) = absurd (omega arith)
-  table-alike e (over h x c) (short l) = absurd (omega arith)
-  table-alike e (over h x c) (over h' x' c') = (refl, changed (c.zeros ∙ sym c'.zeros) c.rest c'.rest)
-  table-alike e (over h x c) (done h' f) = let l = exceeds-count sound x f.counted in absurd (omega (arith, f.within))
-  table-alike e (done h f) (short l) = absurd (omega arith)
-  table-alike e (done h f) (over h' x c) = let l = exceeds-count sound x f.counted in absurd (omega (arith, f.within))
-  table-alike e (done h f) (done h' f') =
-      let q = fact-count-same T f.counted f'.counted in
-      let v = answers-same f.judged f'.judged in
+  table_alike e (short l) (short l') = (refl, unchanged)
+  table_alike e (short l) (over h x c) = absurd (omega arith)
+  table_alike e (short l) (done h f) = absurd (omega arith)
+  table_alike e (over h x c) (short l) = absurd (omega arith)
+  table_alike e (over h x c) (over h' x' c') = (refl, changed (c.zeros ∙ sym c'.zeros) c.rest c'.rest)
+  table_alike e (over h x c) (done h' f) = let l = exceeds_count sound x f.counted in absurd (omega (arith, f.within))
+  table_alike e (done h f) (short l) = absurd (omega arith)
+  table_alike e (done h f) (over h' x c) = let l = exceeds_count sound x f.counted in absurd (omega (arith, f.within))
+  table_alike e (done h f) (done h' f') =
+      let q = fact_count_same T f.counted f'.counted in
+      let v = answers_same f.judged f'.judged in
       (λ i. Done (q i) (v i), changed (holds_same f.relations f'.relations) f.rest f'.rest)
 
 -- ---- one file
 
-pub got-table : {T T' : Table} {n n' : ℕ} → got T n ≡ got T' n' → T ≡ T'
-got-table e = cc
+pub got_table : {T T' : Table} {n n' : ℕ} → got T n ≡ got T' n' → T ≡ T'
+got_table e = cc
 
 -- the table that a file holds is the one that was checked
 pub was_read : {s : List ℕ} {budget : ℕ} {m m₁ : List ℕ} {a : Answer} {T : Table} {k : ℕ} → table_at s ≡ got T k → Checked s budget m a m₁
     → OfTable T budget m a m₁
 was_read e (refused e') = let q = sym e ∙ e' in never (cc)
-was_read {budget = budget} {m} {m₁} {a} e (read e' o) = rw (got-table (sym e ∙ e')) o
+was_read {budget = budget} {m} {m₁} {a} e (read e' o) = rw (got_table (sym e ∙ e')) o
 
-pub bad-refusal : {x y : Refusal} → ◌≡◌ {A = Out Table} (bad x) (bad y) → x ≡ y
-bad-refusal e = cc
+pub bad_refusal : {x y : Refusal} → ◌≡◌ {A = Out Table} (bad x) (bad y) → x ≡ y
+bad_refusal e = cc
 
 -- what the memory held before changes neither the answer nor what is worked out in it
-pub checked-alike : {s : List ℕ} {budget : ℕ} {m n m₁ n₁ : List ℕ} {a b : Answer} {T : Table} {k : ℕ} → length m ≡ length n
+pub checked_alike : {s : List ℕ} {budget : ℕ} {m n m₁ n₁ : List ℕ} {a b : Answer} {T : Table} {k : ℕ} → length m ≡ length n
     → table_at s ≡ got T k → Checked s budget m a m₁ → Checked s budget n b n₁ → (a ≡ b) × Alike (W T) m n m₁ n₁
-checked-alike {s} {T = T} {k} long e r r' = table-alike (table-sound s T k e) long (was_read e r) (was_read e r')
+checked_alike {s} {T = T} {k} long e r r' = table_alike (table_sound s T k e) long (was_read e r) (was_read e r')
 
-pub checked-answer : {s : List ℕ} {budget : ℕ} {m n m₁ n₁ : List ℕ} {a b : Answer} → length m ≡ length n
+pub checked_answer : {s : List ℕ} {budget : ℕ} {m n m₁ n₁ : List ℕ} {a b : Answer} → length m ≡ length n
     → Checked s budget m a m₁ → Checked s budget n b n₁ → a ≡ b
-checked-answer long (refused e) (refused e') = ap Refused (bad-refusal (sym e ∙ e'))
-checked-answer long (refused e) (read e' o) = let q = sym e ∙ e' in never (cc)
-checked-answer long (read e o) r = (checked-alike long e (read e o) r).0
+checked_answer long (refused e) (refused e') = ap Refused (bad_refusal (sym e ∙ e'))
+checked_answer long (refused e) (read e' o) = let q = sym e ∙ e' in never (cc)
+checked_answer long (read e o) r = (checked_alike long e (read e o) r).0
 
-pub checked-same : {s : List ℕ} {budget : ℕ} {m m₁ m₂ : List ℕ} {a b : Answer}
+pub checked_same : {s : List ℕ} {budget : ℕ} {m m₁ m₂ : List ℕ} {a b : Answer}
     → Checked s budget m a m₁ → Checked s budget m b m₂ → Same a b m₁ m₂
-checked-same (refused e) (refused e') = (ap Refused (bad-refusal (sym e ∙ e')), refl)
-checked-same (refused e) (read e' o) = let q = sym e ∙ e' in never (cc)
-checked-same (read e o) r = let (q, bytes) = checked-alike refl e (read e o) r in (q, alike_same bytes)
+checked_same (refused e) (refused e') = (ap Refused (bad_refusal (sym e ∙ e')), refl)
+checked_same (refused e) (read e' o) = let q = sym e ∙ e' in never (cc)
+checked_same (read e o) r = let (q, bytes) = checked_alike refl e (read e o) r in (q, alike_same bytes)
 
 -- ---- the contracts as the prover reads them from the source
 
-pub check-fixes : (κs : Lfts 2) (a : Dens κs check-kinds.ps) (x x' : Answer)
+pub check_fixes : (κs : Lfts 2) (a : Dens κs check-kinds.ps) (x x' : Answer)
     (s s' : AtExit (ended_of 2 check-kinds.ps check-kinds.r) κs)
     → check.Post κs a x s → check.Post κs a x' s' → Same x x' s.1.0.now s'.1.0.now
-check-fixes κs a x x' s s' = checked-same
+check_fixes κs a x x' s s' = checked_same
 
-pub reply-of-fixes : Fixes reply-of-kinds.ps reply-of-kinds.r reply-of.Post
-reply-of-fixes κs a x x' s s' = same
+pub reply_of_fixes : Fixes reply-of-kinds.ps reply-of-kinds.r reply-of.Post
+reply_of_fixes κs a x x' s s' = same
 
-pub plain-reply-fixes : Fixes plain-reply-kinds.ps plain-reply-kinds.r plain-reply.Post
-plain-reply-fixes κs a x x' s s' = same
+pub plain_reply_fixes : Fixes plain-reply-kinds.ps plain-reply-kinds.r plain-reply.Post
+plain_reply_fixes κs a x x' s s' = same
 
-pub refusal-reply-fixes : Fixes refusal-reply-kinds.ps refusal-reply-kinds.r refusal-reply.Post
-refusal-reply-fixes κs a x x' s s' = same
+pub refusal_reply_fixes : Fixes refusal-reply-kinds.ps refusal-reply-kinds.r refusal-reply.Post
+refusal_reply_fixes κs a x x' s s' = same

@@ -3,8 +3,8 @@ use Rattle.std.specs.Prelude.{◌≡◌, List, ℕ, ◌*◌, ◌≤◌, length}
 use Rattle.std.proofs.lemmas.List.Edits.{sets}
 use Rattle.files.specs.declared.header.Header.{Header}
 use Rattle.files.specs.declared.table.Counts.{Counts}
-use Rattle.files.specs.Table.{Table, Sound, stepCells, pushCells, popCells, errorCells, mostSteps, mostPushes, mostPops, mostErrors}
-use Rattle.files.specs.File.{headerIn, countsIn, rowBytes}
+use Rattle.files.specs.Table.{Table, Sound, step_cells, push_cells, pop_cells, error_cells, most_steps, most_pushes, most_pops, most_errors}
+use Rattle.files.specs.File.{header_in, counts_in, row_bytes}
 
 -- bytes stand at the start of a memory that has room for as many rows as its list may have
 pub record Laid (most : ℕ) (bytes mem : List ℕ) : Type 0 where
@@ -14,9 +14,9 @@ pub record Laid (most : ℕ) (bytes mem : List ℕ) : Type 0 where
 
 pub record Stored (T : Table) (h : Header) (k : Counts) (st pu po er : List ℕ) : Type 0 where
   pub sound : Sound T
-  pub header : h ≡ headerIn T
-  pub counts : k ≡ countsIn T
-  pub steps : Laid mostSteps (rowBytes stepCells T.steps) st
-  pub pushes : Laid mostPushes (rowBytes pushCells T.pushes) pu
-  pub pops : Laid mostPops (rowBytes popCells T.pops) po
-  pub errors : Laid mostErrors (rowBytes errorCells T.errors) er
+  pub header : h ≡ header_in T
+  pub counts : k ≡ counts_in T
+  pub steps : Laid most_steps (row_bytes step_cells T.steps) st
+  pub pushes : Laid most_pushes (row_bytes push_cells T.pushes) pu
+  pub pops : Laid most_pops (row_bytes pop_cells T.pops) po
+  pub errors : Laid most_errors (row_bytes error_cells T.errors) er

@@ -1,6 +1,6 @@
 // The answers of the check, and document 01's number, origin and value of each.
 ghost use Rattle.std.specs.Prelude.{◌≡◌};
-ghost use Rattle.check_call.specs.Answers.{plain, told, replyOf};
+ghost use Rattle.check_call.specs.Answers.{plain, told, reply_of};
 
 use numbers::refusals::Refusal;
 use verdict::search::Verdict;
@@ -51,7 +51,7 @@ pub fn refusal_reply(origin: u32, refusal: Refusal) -> Reply
 
 // The number, the origin and the value of an answer.
 pub fn reply_of(answer: Answer) -> Reply
-    ensures { result ≡ replyOf answer }
+    ensures { result ≡ reply_of answer }
 {
     match answer {
         Answer::Done { count, verdict: _ } => plain_reply(0, count),

@@ -1,7 +1,7 @@
 // The program `claim_check TABLE CLAIM`: checks the claim in a file against the table in another. Prints that it is accepted, with its count of
 // facts; or the refusal. Why it is refused, and what is wrong with a file, is said on standard error.
 ghost use Rattle.std.specs.Prelude.{◌≡◌, ◌+◌, length};
-ghost use Rattle.files.specs.Table.{mostFacts};
+ghost use Rattle.files.specs.Table.{most_facts};
 
 use claim_check_call::answer::claim_reply_of;
 use claim_check_call::check::check_claim;
@@ -14,7 +14,7 @@ use text::lines::ROOM;
 
 // Working memory for any table. The `ensures` gives its length, which lending it asks.
 fn memory() -> [u8; MOST_FACTS]
-    ensures { mostFacts ≡ length result }
+    ensures { most_facts ≡ length result }
 {
     [0; MOST_FACTS]
 }
@@ -24,7 +24,7 @@ const CLAIM_ROOM: usize = MOST_FACTS + 9;
 
 // Room for the claim.
 fn room() -> [u8; CLAIM_ROOM]
-    ensures { mostFacts + 9 ≡ length result }
+    ensures { most_facts + 9 ≡ length result }
 {
     [0; CLAIM_ROOM]
 }

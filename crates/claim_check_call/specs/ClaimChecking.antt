@@ -6,9 +6,9 @@ use Rattle.numbers.specs.Reading.{got, bad}
 use Rattle.files.specs.Table.{Table, W}
 use Rattle.files.specs.File.{table_at}
 use Rattle.model.specs.Memory.{Holds}
-use Rattle.model.specs.Claims.{Claimed, Finding, Finds, accepted, lacks-start, not-closed, allows-error}
+use Rattle.model.specs.Claims.{Claimed, Finding, Finds, accepted, lacks_start, not_closed, allows_error}
 use Rattle.store.specs.Clearing.{Cleared}
-use Rattle.claim_reader.specs.ClaimFile.{claimAt}
+use Rattle.claim_reader.specs.ClaimFile.{claim_at}
 use Rattle.claim_check_call.specs.declared.answer.ClaimAnswer.{ClaimAnswer}
 use Rattle.claim_check_call.specs.declared.answer.ClaimAnswer.TheVariants.{
   Accepted,
@@ -37,23 +37,23 @@ pub data OfPositions (T : Table) (ps m : List ℕ) : ClaimAnswer → List ℕ �
   -- 0: the value is the claim's count
   done : {m' : List ℕ} → Accepts T ps m m' → OfPositions T ps m (Accepted (length ps)) m'
   -- 9: the claim lacks a start fact, that of thread t and of none before it
-  lacking : {t : ℕ} {m' : List ℕ} → Refuses T ps m (lacks-start t) m' → OfPositions T ps m (LacksStart t) m'
+  lacking : {t : ℕ} {m' : List ℕ} → Refuses T ps m (lacks_start t) m' → OfPositions T ps m (LacksStart t) m'
   -- 10: p is the smallest position that one use of a rule yields from claimed facts and isn't claimed
-  missing : {p : ℕ} {m' : List ℕ} → Refuses T ps m (not-closed p) m' → OfPositions T ps m (NotClosed p) m'
+  missing : {p : ℕ} {m' : List ℕ} → Refuses T ps m (not_closed p) m' → OfPositions T ps m (NotClosed p) m'
   -- 11: the claim allows an error, by the row and by none before it
-  allowing : {row : ℕ} {m' : List ℕ} → Refuses T ps m (allows-error row) m' → OfPositions T ps m (AllowsError row) m'
+  allowing : {row : ℕ} {m' : List ℕ} → Refuses T ps m (allows_error row) m' → OfPositions T ps m (AllowsError row) m'
 
 -- what comes back for a table that was read
 pub data AgainstTable (T : Table) (c m : List ℕ) : ClaimAnswer → List ℕ → Type 0 where
   -- 7: the working memory is shorter than W; nothing is changed
   short : length m < W T → AgainstTable T c m (Short (W T)) m
   -- the claim's 1 to 6, as its reader gives them; nothing is changed
-  claim-refused : {x : Refusal} → W T ≤ length m → claimAt (W T) c ≡ bad x → AgainstTable T c m (ClaimRefused x) m
-  claim-read : {ps : List ℕ} {next : ℕ} {a : ClaimAnswer} {m' : List ℕ} → W T ≤ length m → claimAt (W T) c ≡ got ps next
+  claim_refused : {x : Refusal} → W T ≤ length m → claim_at (W T) c ≡ bad x → AgainstTable T c m (ClaimRefused x) m
+  claim_read : {ps : List ℕ} {next : ℕ} {a : ClaimAnswer} {m' : List ℕ} → W T ≤ length m → claim_at (W T) c ≡ got ps next
       → OfPositions T ps m a m' → AgainstTable T c m a m'
 
 -- what comes back for a table's file s and a claim's file c
 pub data ClaimChecked (s c m : List ℕ) : ClaimAnswer → List ℕ → Type 0 where
   -- the table's 1 to 6, as its reader gives them; nothing is changed
-  table-refused : {x : Refusal} → table_at s ≡ bad x → ClaimChecked s c m (TableRefused x) m
-  table-read : {T : Table} {next : ℕ} {a : ClaimAnswer} {m' : List ℕ} → table_at s ≡ got T next → AgainstTable T c m a m' → ClaimChecked s c m a m'
+  table_refused : {x : Refusal} → table_at s ≡ bad x → ClaimChecked s c m (TableRefused x) m
+  table_read : {T : Table} {next : ℕ} {a : ClaimAnswer} {m' : List ℕ} → table_at s ≡ got T next → AgainstTable T c m a m' → ClaimChecked s c m a m'

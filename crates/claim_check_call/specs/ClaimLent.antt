@@ -5,7 +5,7 @@ use Rattle.files.specs.declared.header.Header.{Header}
 use Rattle.files.specs.declared.table.Counts.{Counts}
 use Rattle.files.specs.Table.{Table, W}
 use Rattle.check_call.specs.Lent.{Stored}
-use Rattle.claim_reader.specs.ClaimFile.{claimAt}
+use Rattle.claim_reader.specs.ClaimFile.{claim_at}
 use Rattle.claim_reader.specs.Marks.{Marks}
 
 -- a table whose rows are stored, its W, and a claim c of `count` facts that is read as the positions ps
@@ -13,7 +13,7 @@ pub record Lent (T : Table) (ps : List ℕ) (h : Header) (k : Counts) (st pu po 
   pub stored : Stored T h k st pu po er
   pub wide : w ≡ W T
   pub next : ℕ
-  pub reads : claimAt w c ≡ got ps next
+  pub reads : claim_at w c ≡ got ps next
   pub counted : count ≡ length ps
 
 -- the first w bytes mark the positions ps, and the others are as they were

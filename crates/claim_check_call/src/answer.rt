@@ -1,6 +1,6 @@
 // The answers of the claim check, and document 01's number, origin and value of each.
 ghost use Rattle.std.specs.Prelude.{◌≡◌};
-ghost use Rattle.claim_check_call.specs.Answers.{claimReplyOf};
+ghost use Rattle.claim_check_call.specs.Answers.{claim_reply_of};
 
 use check_call::answer::{Reply, plain_reply, refusal_reply};
 use numbers::refusals::Refusal;
@@ -26,7 +26,7 @@ pub enum ClaimAnswer {
 
 // The number, the origin and the value of an answer.
 pub fn claim_reply_of(answer: ClaimAnswer) -> Reply
-    ensures { result ≡ claimReplyOf answer }
+    ensures { result ≡ claim_reply_of answer }
 {
     match answer {
         ClaimAnswer::Accepted { count } => plain_reply(0, count),

@@ -1,9 +1,9 @@
 // The claim check: the bytes of a table and of a claim, and working memory in; an answer out.
 ghost use Rattle.std.specs.Prelude.{List, ℕ, ◌≤◌, length};
-ghost use Rattle.files.specs.Table.{Table, mostFacts};
+ghost use Rattle.files.specs.Table.{Table, most_facts};
 ghost use Rattle.check_call.specs.Lent.{Stored};
-ghost use Rattle.claim_reader.specs.ClaimFile.{claimAt};
-ghost use Rattle.claim_reader.specs.ClaimAnswers.{IsClaim, positionsOf};
+ghost use Rattle.claim_reader.specs.ClaimFile.{claim_at};
+ghost use Rattle.claim_reader.specs.ClaimAnswers.{IsClaim, positions_of};
 ghost use Rattle.claim_check_call.specs.ClaimChecking.{OfPositions, AgainstTable, ClaimChecked};
 ghost use Rattle.claim_check_call.specs.ClaimLent.{Lent, MarkedFirst};
 
@@ -16,8 +16,8 @@ use store::marks::clear_first;
 
 // Marks the claimed facts in the first w bytes of a memory.
 fn mark_in(claim: &[u8], w: usize, mem: &mut [u8])
-    requires { IsClaim w claim.now × (w ≤ mostFacts) × (w ≤ length mem.old) }
-    ensures { MarkedFirst w (positionsOf (claimAt w claim.now)) mem.old mem.new }
+    requires { IsClaim w claim.now × (w ≤ most_facts) × (w ≤ length mem.old) }
+    ensures { MarkedFirst w (positions_of (claim_at w claim.now)) mem.old mem.new }
 {
     claim_reader::reading::mark_claim(claim, w, &mut mem[..w]);
 }

@@ -13,14 +13,14 @@ use Rattle.claim_of_marks.proofs.writing.claim_width.Kinds as claim-width-kinds
 use Rattle.claim_of_marks.proofs.writing.put_claim.Reads as put-claim
 use Rattle.claim_of_marks.proofs.writing.put_claim.Kinds as put-claim-kinds
 
-pub claim-width-fixes : Fixes claim-width-kinds.ps claim-width-kinds.r claim-width.Post
-claim-width-fixes κs a x x' s s' = same
+pub claim_width_fixes : Fixes claim-width-kinds.ps claim-width-kinds.r claim-width.Post
+claim_width_fixes κs a x x' s s' = same
 
-pub claim-put-unique : {ps before after after' : List ℕ} {r r' : ℕ} → ClaimPut ps before after r → ClaimPut ps before after' r'
+pub claim_put_unique : {ps before after after' : List ℕ} {r r' : ℕ} → ClaimPut ps before after r → ClaimPut ps before after' r'
     → (r ≡ r') × (after ≡ after')
-claim-put-unique p q = (same p.count q.count, same p.bytes q.bytes)
+claim_put_unique p q = (same p.count q.count, same p.bytes q.bytes)
 
-pub put-claim-fixes : (κs : Lfts 2) (a : Dens κs put-claim-kinds.ps) (x x' : ℕ)
+pub put_claim_fixes : (κs : Lfts 2) (a : Dens κs put-claim-kinds.ps) (x x' : ℕ)
     (s s' : AtExit (ended_of 2 put-claim-kinds.ps put-claim-kinds.r) κs)
     → put-claim.Post κs a x s → put-claim.Post κs a x' s' → (x ≡ x') × (s.1.1.0.now ≡ s'.1.1.0.now)
-put-claim-fixes κs a x x' s s' = claim-put-unique
+put_claim_fixes κs a x x' s s' = claim_put_unique

@@ -3,13 +3,13 @@
 ghost use Rattle.std.specs.Prelude.{◌≡◌, ◌+◌, ◌≤◌, length};
 ghost use Rattle.numbers.specs.Writing.{bytes_of};
 ghost use Rattle.numbers.specs.Putting.{Put};
-ghost use Rattle.files.specs.Table.{mostFacts};
+ghost use Rattle.files.specs.Table.{most_facts};
 ghost use Rattle.store.specs.Marking.{room};
-ghost use Rattle.claim_reader.specs.ClaimFile.{claimBytes};
+ghost use Rattle.claim_reader.specs.ClaimFile.{claim_bytes};
 ghost use Rattle.claim_of_marks.specs.Writing.{ClaimPut};
-ghost use Rattle.claim_reader.specs.Marks.{positionsIn};
-ghost use Rattle.claim_reader.specs.Stages.{positionBytes};
-ghost use Rattle.claim_of_marks.specs.Stages.{totalsOf};
+ghost use Rattle.claim_reader.specs.Marks.{positions_in};
+ghost use Rattle.claim_reader.specs.Stages.{position_bytes};
+ghost use Rattle.claim_of_marks.specs.Stages.{totals_of};
 
 use store::marks::next_mark;
 
@@ -25,8 +25,8 @@ struct Totals {
 
 // How many positions below w are marked, and how many bytes they take in a claim.
 fn totals_of(mem: &[u8], w: usize) -> Totals
-    requires { (w ≤ mostFacts) × (w ≤ room mem.now) }
-    ensures { result ≡ totalsOf (positionsIn w mem.now) }
+    requires { (w ≤ most_facts) × (w ≤ room mem.now) }
+    ensures { result ≡ totals_of (positions_in w mem.now) }
 {
     let mut count: usize = 0;
     let mut width: usize = 0;
@@ -43,8 +43,8 @@ fn totals_of(mem: &[u8], w: usize) -> Totals
 
 // How many bytes the claim of the facts that are marked takes, for a room of w facts.
 pub fn claim_width(mem: &[u8], w: usize) -> usize
-    requires { (w ≤ mostFacts) × (w ≤ room mem.now) }
-    ensures { result ≡ length (claimBytes (positionsIn w mem.now)) }
+    requires { (w ≤ most_facts) × (w ≤ room mem.now) }
+    ensures { result ≡ length (claim_bytes (positions_in w mem.now)) }
 {
     let all = totals_of(mem, w);
     let version = numbers::writing::width(VERSION as u32);
@@ -54,7 +54,7 @@ pub fn claim_width(mem: &[u8], w: usize) -> usize
 
 // Puts a number at `at`, where it has room, and gives the place past it.
 fn put(space: &mut [u8], at: usize, value: usize) -> usize
-    requires { (value ≤ mostFacts) × (at + length (bytes_of value) ≤ length space.old) }
+    requires { (value ≤ most_facts) × (at + length (bytes_of value) ≤ length space.old) }
     ensures { Put (bytes_of value) at space.old space.new result }
 {
     numbers::writing::put_number(space, at, value as u32)
@@ -62,8 +62,8 @@ fn put(space: &mut [u8], at: usize, value: usize) -> usize
 
 // Puts the marked positions below w from `at` on, each as its distance from the one before, and gives the place past them.
 fn put_positions(mem: &[u8], w: usize, space: &mut [u8], at: usize) -> usize
-    requires { (w ≤ mostFacts) × (w ≤ room mem.now) × (at + length (positionBytes 0 (positionsIn w mem.now)) ≤ length space.old) }
-    ensures { Put (positionBytes 0 (positionsIn w mem.now)) at space.old space.new result }
+    requires { (w ≤ most_facts) × (w ≤ room mem.now) × (at + length (position_bytes 0 (positions_in w mem.now)) ≤ length space.old) }
+    ensures { Put (position_bytes 0 (positions_in w mem.now)) at space.old space.new result }
 {
     let mut next = at;
     let mut last: usize = 0;
@@ -79,8 +79,8 @@ fn put_positions(mem: &[u8], w: usize, space: &mut [u8], at: usize) -> usize
 // Writes the claim of the facts that are marked, for a room of w facts, at the start of a space that has room for it, and gives how many bytes
 // it takes.
 pub fn put_claim(mem: &[u8], w: usize, space: &mut [u8]) -> usize
-    requires { (w ≤ mostFacts) × (w ≤ room mem.now) × (length (claimBytes (positionsIn w mem.now)) ≤ length space.old) }
-    ensures { ClaimPut (positionsIn w mem.now) space.old space.new result }
+    requires { (w ≤ most_facts) × (w ≤ room mem.now) × (length (claim_bytes (positions_in w mem.now)) ≤ length space.old) }
+    ensures { ClaimPut (positions_in w mem.now) space.old space.new result }
 {
     let all = totals_of(mem, w);
     let second = put(space, 0, VERSION);

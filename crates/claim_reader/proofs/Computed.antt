@@ -2,14 +2,14 @@
 use mathlib.Core.Path.{◌≡◌, refl}
 use mathlib.Core.List.{List}
 use Prim.Native.Nat.{ℕ}
-use Rattle.numbers.specs.Reading.{Out, groupsAt, numberAt, field_at, versionAt}
-use Rattle.claim_reader.specs.ClaimFile.{countAt, positionAt, positionsAt, rest_at, claimAt}
+use Rattle.numbers.specs.Reading.{Out, groups_at, number_at, field_at, version_at}
+use Rattle.claim_reader.specs.ClaimFile.{count_at, position_at, positions_at, rest_at, claim_at}
 
 -- the positions of a file, ready to compute: the one name to unfold
 unfoldable pub claims : ℕ → List ℕ → Out (List ℕ)
-unfolding claimAt countAt rest_at positionsAt positionAt versionAt field_at numberAt groupsAt
-claims w s = claimAt w s
+unfolding claim_at count_at rest_at positions_at position_at version_at field_at number_at groups_at
+claims w s = claim_at w s
 
-pub claims-is : (w : ℕ) (s : List ℕ) → claims w s ≡ claimAt w s
+pub claims_is : (w : ℕ) (s : List ℕ) → claims w s ≡ claim_at w s
 unfolding claims
-claims-is w s = refl
+claims_is w s = refl

@@ -1,7 +1,7 @@
 -- Laws of the positions that are marked in a memory.
---     marked-here, -skip    the positions from p on, by whether p is marked
---     marked-most           they are no more than the positions that are looked at
---     positions-total       they are as many as the marks are in sum
+--     marked_here, _skip    the positions from p on, by whether p is marked
+--     marked_most           they are no more than the positions that are looked at
+--     positions_total       they are as many as the marks are in sum
 --     Coming, coming        the marked positions from a place on: the first of them, and those after it
 use mathlib.Core.Path.{◌≡◌, refl, ◌∙◌}
 use mathlib.Core.List.{List, [], ◌∷◌}
@@ -13,92 +13,92 @@ use Rattle.model.specs.Memory.{mark, total}
 use Rattle.model.proofs.Memory.{unmarked}
 use Rattle.store.specs.Marking.{Has, NextMark}
 use Rattle.store.proofs.MarkLaws.{BitsTo, has?}
-use Rattle.store.proofs.NextLaws.{next_past, next-first, next-skip}
-use Rattle.claim_reader.specs.Marks.{markedFrom, positionsIn}
+use Rattle.store.proofs.NextLaws.{next_past, next_first, next_skip}
+use Rattle.claim_reader.specs.Marks.{marked_from, positions_in}
 
-pub marked-none : (mem : List ℕ) (p : ℕ) → markedFrom mem p 0 ≡ []
-unfolding markedFrom
-marked-none mem p = refl
+pub marked_none : (mem : List ℕ) (p : ℕ) → marked_from mem p 0 ≡ []
+unfolding marked_from
+marked_none mem p = refl
 
 module _ (mem : List ℕ) (p k : ℕ) where
-  pub marked-here : Has mem p → markedFrom mem p (suc k) ≡ p ∷ markedFrom mem (p + 1) k
-  unfolding markedFrom Has
-  marked-here h = simp (eq-eqb (mark mem p) 1 h)
+  pub marked_here : Has mem p → marked_from mem p (suc k) ≡ p ∷ marked_from mem (p + 1) k
+  unfolding marked_from Has
+  marked_here h = simp (eq-eqb (mark mem p) 1 h)
 
-  pub marked-skip : ¬ Has mem p → markedFrom mem p (suc k) ≡ markedFrom mem (p + 1) k
-  unfolding markedFrom Has
-  marked-skip h = simp (ne_eqb (mark mem p) 1 h)
+  pub marked_skip : ¬ Has mem p → marked_from mem p (suc k) ≡ marked_from mem (p + 1) k
+  unfolding marked_from Has
+  marked_skip h = simp (ne_eqb (mark mem p) 1 h)
 
-marked-most : (mem : List ℕ) (p k : ℕ) → length (markedFrom mem p k) ≤ k
-marked-most mem p zero = rw marked-none (omega arith)
-marked-most mem p (suc k) = go (has? mem p) (marked-most mem (p + 1) k)
+marked_most : (mem : List ℕ) (p k : ℕ) → length (marked_from mem p k) ≤ k
+marked_most mem p zero = rw marked_none (omega arith)
+marked_most mem p (suc k) = go (has? mem p) (marked_most mem (p + 1) k)
   where
-    go : Dec (Has mem p) → length (markedFrom mem (p + 1) k) ≤ k → length (markedFrom mem p (suc k)) ≤ suc k
-    go (yes h) i = rw (marked-here mem p k h) (omega arith)
-    go (no h) i = rw (marked-skip mem p k h) (omega arith)
+    go : Dec (Has mem p) → length (marked_from mem (p + 1) k) ≤ k → length (marked_from mem p (suc k)) ≤ suc k
+    go (yes h) i = rw (marked_here mem p k h) (omega arith)
+    go (no h) i = rw (marked_skip mem p k h) (omega arith)
 
-pub positions-most : (w : ℕ) (mem : List ℕ) → length (positionsIn w mem) ≤ w
-unfolding positionsIn
-positions-most w mem = marked-most mem 0 w
+pub positions_most : (w : ℕ) (mem : List ℕ) → length (positions_in w mem) ≤ w
+unfolding positions_in
+positions_most w mem = marked_most mem 0 w
 
 -- ---- how many there are, in a memory whose first w marks are 0 or 1
 
 module _ (mem : List ℕ) where
   -- one more position is looked at
-  marked-last : (k p : ℕ) → mark mem (p + k) ≤ 1 → length (markedFrom mem p (suc k)) ≡ length (markedFrom mem p k) + mark mem (p + k)
+  marked_last : (k p : ℕ) → mark mem (p + k) ≤ 1 → length (marked_from mem p (suc k)) ≡ length (marked_from mem p k) + mark mem (p + k)
   unfolding Has
-  marked-last zero p b = go (has? mem p)
+  marked_last zero p b = go (has? mem p)
     where
       here : p + 0 ≡ p
       here = omega arith
 
-      go : Dec (Has mem p) → length (markedFrom mem p 1) ≡ length (markedFrom mem p 0) + mark mem (p + 0)
-      go (yes h) = rw (marked-here mem p 0 h, marked-none, marked-none, here, h)
-      go (no h) = rw (marked-skip mem p 0 h, marked-none, marked-none, unmarked (mark mem (p + 0)) b (λ e. h (rw here at e)))
-  marked-last (suc k) p b = go (has? mem p) (marked-last k (p + 1) (rw next at b))
+      go : Dec (Has mem p) → length (marked_from mem p 1) ≡ length (marked_from mem p 0) + mark mem (p + 0)
+      go (yes h) = rw (marked_here mem p 0 h, marked_none, marked_none, here, h)
+      go (no h) = rw (marked_skip mem p 0 h, marked_none, marked_none, unmarked (mark mem (p + 0)) b (λ e. h (rw here at e)))
+  marked_last (suc k) p b = go (has? mem p) (marked_last k (p + 1) (rw next at b))
     where
       next : p + suc k ≡ p + 1 + k
       next = omega arith
 
       go : Dec (Has mem p)
-          → length (markedFrom mem (p + 1) (suc k)) ≡ length (markedFrom mem (p + 1) k) + mark mem (p + 1 + k)
-          → length (markedFrom mem p (suc (suc k))) ≡ length (markedFrom mem p (suc k)) + mark mem (p + suc k)
-      go (yes h) e = rw (marked-here mem p (suc k) h, marked-here mem p k h, next) (omega arith)
-      go (no h) e = rw (marked-skip mem p (suc k) h, marked-skip mem p k h, next) e
+          → length (marked_from mem (p + 1) (suc k)) ≡ length (marked_from mem (p + 1) k) + mark mem (p + 1 + k)
+          → length (marked_from mem p (suc (suc k))) ≡ length (marked_from mem p (suc k)) + mark mem (p + suc k)
+      go (yes h) e = rw (marked_here mem p (suc k) h, marked_here mem p k h, next) (omega arith)
+      go (no h) e = rw (marked_skip mem p (suc k) h, marked_skip mem p k h, next) e
 
-  pub positions-total : (w : ℕ) → BitsTo w mem → length (positionsIn w mem) ≡ total mem w
-  unfolding positionsIn total
-  positions-total zero b = rw marked-none
-  positions-total (suc w) b =
+  pub positions_total : (w : ℕ) → BitsTo w mem → length (positions_in w mem) ≡ total mem w
+  unfolding positions_in total
+  positions_total zero b = rw marked_none
+  positions_total (suc w) b =
       let here : 0 + w ≡ w = omega arith in
-      let e = rw here at (marked-last w 0 (rw here (b w (omega arith)))) in
-      omega (arith, positions-total w (λ p l. b p (omega arith)))
+      let e = rw here at (marked_last w 0 (rw here (b w (omega arith)))) in
+      omega (arith, positions_total w (λ p l. b p (omega arith)))
 
 -- ---- the first of the marked positions, and the others
 
 -- rest are the marked positions that are to come after `last`, and p is the first of them; or there is none, and p is w
 pub record Coming (mem : List ℕ) (w last p : ℕ) (rest : List ℕ) : Type 0 where
-  pub some : p < w → (last ≤ p) × (rest ≡ p ∷ markedFrom mem (p + 1) (w - (p + 1)))
+  pub some : p < w → (last ≤ p) × (rest ≡ p ∷ marked_from mem (p + 1) (w - (p + 1)))
   pub none : w ≤ p → rest ≡ []
 
 module _ (mem : List ℕ) (w last : ℕ) where
-  coming-from : (k from p : ℕ) → last ≤ from → from + k ≡ w → NextMark mem from w p → Coming mem w last p (markedFrom mem from k)
-  unfolding markedFrom
-  coming-from zero from p h e n =
+  coming_from : (k from p : ℕ) → last ≤ from → from + k ≡ w → NextMark mem from w p → Coming mem w last p (marked_from mem from k)
+  unfolding marked_from
+  coming_from zero from p h e n =
       record { some = λ l. absurd (omega (arith, next_past (omega arith) n)); none = λ _. refl }
-  coming-from (suc k) from p h e n = go (has? mem from) (coming-from k (from + 1) p (omega arith) (omega arith))
+  coming_from (suc k) from p h e n = go (has? mem from) (coming_from k (from + 1) p (omega arith) (omega arith))
     where
-      go : Dec (Has mem from) → (NextMark mem (from + 1) w p → Coming mem w last p (markedFrom mem (from + 1) k))
-          → Coming mem w last p (markedFrom mem from (suc k))
+      go : Dec (Has mem from) → (NextMark mem (from + 1) w p → Coming mem w last p (marked_from mem (from + 1) k))
+          → Coming mem w last p (marked_from mem from (suc k))
       go (yes i) rec =
-          let m = marked-here mem from k i in
-          let is : p ≡ from = next-first (omega arith) i n in
+          let m = marked_here mem from k i in
+          let is : p ≡ from = next_first (omega arith) i n in
           let left : k ≡ w - (from + 1) = omega arith in
           record { some = λ l. (omega arith, m ∙ rw (is, left)); none = λ l. absurd (omega arith) }
       go (no i) rec =
-          let m = marked-skip mem from k i in
-          let c = rec (next-skip (omega arith) i n) in
+          let m = marked_skip mem from k i in
+          let c = rec (next_skip (omega arith) i n) in
           record { some = λ l. ((c.some l).0, m ∙ (c.some l).1); none = λ l. m ∙ c.none l }
 
-  pub coming : (from p : ℕ) → last ≤ from → from ≤ w → NextMark mem from w p → Coming mem w last p (markedFrom mem from (w - from))
-  coming from p h i n = coming-from (w - from) from p h (omega arith) n
+  pub coming : (from p : ℕ) → last ≤ from → from ≤ w → NextMark mem from w p → Coming mem w last p (marked_from mem from (w - from))
+  coming from p h i n = coming_from (w - from) from p h (omega arith) n

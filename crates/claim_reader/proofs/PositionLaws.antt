@@ -1,43 +1,43 @@
 -- Laws of the count and of the positions of a claim that is read.
---     count-after, -bad                  what `countAt` gives, by its version
---     position-far, -bad                 what `positionAt` gives, by its distance
---     position-got                       what is known of a position that was read
---     positions-none, -more, -stop       what `positionsAt` gives, one position at a time
---     positions-first                    where positions were read, the first was, and the others from the place past it
---     positions-count, -ascending        they are as many as the count says, strictly ascending, and below w
+--     count_after, _bad                  what `count_at` gives, by its version
+--     position_far, _bad                 what `position_at` gives, by its distance
+--     position_got                       what is known of a position that was read
+--     positions_none, _more, _stop       what `positions_at` gives, one position at a time
+--     positions_first                    where positions were read, the first was, and the others from the place past it
+--     positions_count, _ascending        they are as many as the count says, strictly ascending, and below w
 use mathlib.Core.Path.{◌≡◌, refl, ap, ◌∙◌}
 use mathlib.Core.List.{List, [], ◌∷◌}
 use Prim.Native.Nat.{ℕ, zero, suc, ◌+◌, ◌-◌, ◌≤◌, ◌<◌}
 use native.Mathlib.Omega.{arith}
 use lib.ListN.{length}
 use Rattle.numbers.specs.declared.refusals.Refusal.{Refusal}
-use Rattle.numbers.specs.Reading.{Out, got, bad, field_at, versionAt}
+use Rattle.numbers.specs.Reading.{Out, got, bad, field_at, version_at}
 use Rattle.numbers.proofs.ReadingLaws.{never, parts}
-use Rattle.numbers.proofs.FieldLaws.{field-got}
+use Rattle.numbers.proofs.FieldLaws.{field_got}
 use Rattle.cells.specs.Rows.{push}
-use Rattle.claim_reader.specs.ClaimFile.{countAt, positionAt, positionsAt, AscendingFrom}
+use Rattle.claim_reader.specs.ClaimFile.{count_at, position_at, positions_at, AscendingFrom}
 
 -- ---- the count
 
 module _ (w : ℕ) (s : List ℕ) where
-  pub count-after : {v n : ℕ} → versionAt s ≡ got v n → countAt w s ≡ field_at s n 0 (w + 1)
-  unfolding countAt
-  count-after e = rw e
+  pub count_after : {v n : ℕ} → version_at s ≡ got v n → count_at w s ≡ field_at s n 0 (w + 1)
+  unfolding count_at
+  count_after e = rw e
 
-  pub count-bad : {r : Refusal} → versionAt s ≡ bad r → countAt w s ≡ bad r
-  unfolding countAt
-  count-bad e = rw e
+  pub count_bad : {r : Refusal} → version_at s ≡ bad r → count_at w s ≡ bad r
+  unfolding count_at
+  count_bad e = rw e
 
 -- ---- a position
 
 module _ (w least last : ℕ) (s : List ℕ) (at : ℕ) where
-  pub position-far : {d n : ℕ} → field_at s at least (w - last) ≡ got d n → positionAt w least last s at ≡ got (last + d) n
-  unfolding positionAt
-  position-far e = rw e
+  pub position_far : {d n : ℕ} → field_at s at least (w - last) ≡ got d n → position_at w least last s at ≡ got (last + d) n
+  unfolding position_at
+  position_far e = rw e
 
-  pub position-bad : {r : Refusal} → field_at s at least (w - last) ≡ bad r → positionAt w least last s at ≡ bad r
-  unfolding positionAt
-  position-bad e = rw e
+  pub position_bad : {r : Refusal} → field_at s at least (w - last) ≡ bad r → position_at w least last s at ≡ bad r
+  unfolding position_at
+  position_bad e = rw e
 
   -- a position that was read, and its distance from `last`
   pub record Position (p n : ℕ) : Type 0 where
@@ -45,11 +45,11 @@ module _ (w least last : ℕ) (s : List ℕ) (at : ℕ) where
     pub low : last + least ≤ p
     pub below : p < w
 
-  pub position-got : (p n : ℕ) → positionAt w least last s at ≡ got p n → Position p n
-  unfolding positionAt
-  position-got p n e =
+  pub position_got : (p n : ℕ) → position_at w least last s at ≡ got p n → Position p n
+  unfolding position_at
+  position_got p n e =
       let q = parts (field_at s at least (w - last)) _ p n e in
-      let f = field-got s at least (w - last) q.first q.place q.was in
+      let f = field_got s at least (w - last) q.first q.place q.was in
       let is : last + q.first ≡ p = cc q.rest in
       let m : q.place ≡ n = cc q.rest in
       let d : q.first ≡ p - last = omega arith in
@@ -57,9 +57,9 @@ module _ (w least last : ℕ) (s : List ℕ) (at : ℕ) where
 
 -- ---- positions
 
-pub positions-none : (w least last : ℕ) (s : List ℕ) (at : ℕ) → positionsAt w 0 least last s at ≡ got [] at
-unfolding positionsAt
-positions-none w least last s at = refl
+pub positions_none : (w least last : ℕ) (s : List ℕ) (at : ℕ) → positions_at w 0 least last s at ≡ got [] at
+unfolding positions_at
+positions_none w least last s at = refl
 
 -- where something was pushed onto what was read, that was read
 pub record Pushed (p : ℕ) (o : Out (List ℕ)) (ps : List ℕ) (n : ℕ) : Type 0 where
@@ -72,48 +72,48 @@ pushed p (got qs m) ps n e = let i : m ≡ n = cc in record { rest = qs; was = r
 pushed p (bad r) ps n e = never (cc)
 
 module _ (w k least last : ℕ) (s : List ℕ) (at : ℕ) where
-  pub positions-more : {p n : ℕ} → positionAt w least last s at ≡ got p n → positionsAt w (suc k) least last s at ≡ push p (positionsAt w k 1 p s n)
-  unfolding positionsAt
-  positions-more e = rw e
+  pub positions_more : {p n : ℕ} → position_at w least last s at ≡ got p n → positions_at w (suc k) least last s at ≡ push p (positions_at w k 1 p s n)
+  unfolding positions_at
+  positions_more e = rw e
 
-  pub positions-stop : {r : Refusal} → positionAt w least last s at ≡ bad r → positionsAt w (suc k) least last s at ≡ bad r
-  unfolding positionsAt
-  positions-stop e = rw e
+  pub positions_stop : {r : Refusal} → position_at w least last s at ≡ bad r → positions_at w (suc k) least last s at ≡ bad r
+  unfolding positions_at
+  positions_stop e = rw e
 
   -- the first of the positions ps, and the others
   pub record Split (ps : List ℕ) (n : ℕ) : Type 0 where
     pub p : ℕ
     pub next : ℕ
-    pub was : positionAt w least last s at ≡ got p next
-    pub others : Pushed p (positionsAt w k 1 p s next) ps n
+    pub was : position_at w least last s at ≡ got p next
+    pub others : Pushed p (positions_at w k 1 p s next) ps n
 
-  pub positions-first : (ps : List ℕ) (n : ℕ) → positionsAt w (suc k) least last s at ≡ got ps n → Split ps n
-  unfolding positionsAt
-  positions-first ps n e =
-      let q = parts (positionAt w least last s at) _ ps n e in
+  pub positions_first : (ps : List ℕ) (n : ℕ) → positions_at w (suc k) least last s at ≡ got ps n → Split ps n
+  unfolding positions_at
+  positions_first ps n e =
+      let q = parts (position_at w least last s at) _ ps n e in
       record {
         p = q.first;
         next = q.place;
         was = q.was;
-        others = pushed q.first (positionsAt w k 1 q.first s q.place) ps n q.rest;
+        others = pushed q.first (positions_at w k 1 q.first s q.place) ps n q.rest;
       }
 
 none_read : {ps : List ℕ} {at n : ℕ} → got [] at ≡ got ps n → ps ≡ []
 none_read e = cc
 
 module _ (w : ℕ) (s : List ℕ) where
-  pub positions-count : (k least last at : ℕ) (ps : List ℕ) (n : ℕ) → positionsAt w k least last s at ≡ got ps n → length ps ≡ k
-  unfolding positionsAt
-  positions-count zero least last at ps n e = rw (none_read e)
-  positions-count (suc k) least last at ps n e =
-      let f = positions-first w k least last s at ps n e in
-      rw f.others.whole (ap suc (positions-count k 1 f.p f.next f.others.rest n f.others.was))
+  pub positions_count : (k least last at : ℕ) (ps : List ℕ) (n : ℕ) → positions_at w k least last s at ≡ got ps n → length ps ≡ k
+  unfolding positions_at
+  positions_count zero least last at ps n e = rw (none_read e)
+  positions_count (suc k) least last at ps n e =
+      let f = positions_first w k least last s at ps n e in
+      rw f.others.whole (ap suc (positions_count k 1 f.p f.next f.others.rest n f.others.was))
 
-  pub positions-ascending : (k least last at : ℕ) (ps : List ℕ) (n : ℕ) → positionsAt w k least last s at ≡ got ps n
+  pub positions_ascending : (k least last at : ℕ) (ps : List ℕ) (n : ℕ) → positions_at w k least last s at ≡ got ps n
       → AscendingFrom w (last + least) ps
-  unfolding positionsAt
-  positions-ascending zero least last at ps n e = rw (none_read e) tt
-  positions-ascending (suc k) least last at ps n e =
-      let f = positions-first w k least last s at ps n e in
-      let h = position-got w least last s at f.p f.next f.was in
-      rw f.others.whole (h.low, h.below, positions-ascending k 1 f.p f.next f.others.rest n f.others.was)
+  unfolding positions_at
+  positions_ascending zero least last at ps n e = rw (none_read e) tt
+  positions_ascending (suc k) least last at ps n e =
+      let f = positions_first w k least last s at ps n e in
+      let h = position_got w least last s at f.p f.next f.was in
+      rw f.others.whole (h.low, h.below, positions_ascending k 1 f.p f.next f.others.rest n f.others.was)

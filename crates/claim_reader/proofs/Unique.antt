@@ -16,17 +16,17 @@ use Rattle.claim_reader.proofs.reading.read_claim.Kinds as read-claim-kinds
 use Rattle.claim_reader.proofs.reading.mark_claim.Reads as mark-claim
 use Rattle.claim_reader.proofs.reading.mark_claim.Kinds as mark-claim-kinds
 
-pub read-claim-fixes : Fixes read-claim-kinds.ps read-claim-kinds.r read-claim.Post
-read-claim-fixes κs a x x' s s' = same
+pub read_claim_fixes : Fixes read-claim-kinds.ps read-claim-kinds.r read-claim.Post
+read_claim_fixes κs a x x' s s' = same
 
 -- ---- a memory that marks positions
 
-pub marks-unique : {w : ℕ} {ps mem mem' : List ℕ} → Marks w ps mem → Marks w ps mem' → mem ≡ mem'
-marks-unique {mem = mem} {mem'} m m' =
+pub marks_unique : {w : ℕ} {ps mem mem' : List ℕ} → Marks w ps mem → Marks w ps mem' → mem ≡ mem'
+marks_unique {mem = mem} {mem'} m m' =
     ext_get_or 0 mem mem' (same m.long m'.long)
     (λ p l. says_same (m.says p (omega (arith, m.long))) (m'.says p (omega (arith, m.long))))
 
-pub mark-claim-fixes : (κs : Lfts 2) (a : Dens κs mark-claim-kinds.ps) (x x' : (res_t mark-claim-kinds.r κs).Denot)
+pub mark_claim_fixes : (κs : Lfts 2) (a : Dens κs mark-claim-kinds.ps) (x x' : (res_t mark-claim-kinds.r κs).Denot)
     (s s' : AtExit (ended_of 2 mark-claim-kinds.ps mark-claim-kinds.r) κs)
     → mark-claim.Post κs a x s → mark-claim.Post κs a x' s' → s.1.1.0.now ≡ s'.1.1.0.now
-mark-claim-fixes κs a x x' s s' = marks-unique
+mark_claim_fixes κs a x x' s s' = marks_unique

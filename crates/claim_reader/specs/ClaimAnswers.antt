@@ -4,19 +4,19 @@ use Rattle.std.specs.Prelude.{ℕ, ◌≡◌, List, [], length}
 use Rattle.numbers.specs.Reading.{Out, got, bad}
 use Rattle.claim_reader.specs.declared.reading.Claimed.{Claimed}
 use Rattle.claim_reader.specs.declared.reading.Claimed.TheVariants as claimed
-use Rattle.claim_reader.specs.ClaimFile.{claimAt}
+use Rattle.claim_reader.specs.ClaimFile.{claim_at}
 
 -- s is read as a claim
 pub record IsClaim (w : ℕ) (s : List ℕ) : Type 0 where
   pub positions : List ℕ
   pub next : ℕ
-  pub reads : claimAt w s ≡ got positions next
+  pub reads : claim_at w s ≡ got positions next
 
 abbrev pub claimed_of : Out (List ℕ) → Claimed
 claimed_of (got ps next) = claimed.Read (length ps)
 claimed_of (bad r) = claimed.Refused r
 
 -- the positions that were read; none where the file is refused
-abbrev pub positionsOf : Out (List ℕ) → List ℕ
-positionsOf (got ps next) = ps
-positionsOf (bad r) = []
+abbrev pub positions_of : Out (List ℕ) → List ℕ
+positions_of (got ps next) = ps
+positions_of (bad r) = []

@@ -3,49 +3,49 @@
 -- so one definition serves for the first and for the further ones.
 use Rattle.std.specs.Prelude.{ℕ, zero, suc, ◌+◌, ◌-◌, ◌≤◌, ◌<◌, length}
 use mathlib.Core.List.{List, [], ◌∷◌, flat_map}
-use Rattle.numbers.specs.Reading.{Out, got, then, field_at, versionAt}
+use Rattle.numbers.specs.Reading.{Out, got, then, field_at, version_at}
 use Rattle.numbers.specs.Writing.{bytes_of}
 use Rattle.cells.specs.Rows.{push}
-use Rattle.reader.specs.Ends.{atEnd}
+use Rattle.reader.specs.Ends.{at_end}
 
 -- ---- reading, the first fault wins
 
 -- version 1; count 0..w
-unfoldable pub countAt : ℕ → List ℕ → Out ℕ
-countAt w s = then (versionAt s) λ _ next. field_at s next 0 (w + 1)
+unfoldable pub count_at : ℕ → List ℕ → Out ℕ
+count_at w s = then (version_at s) λ _ next. field_at s next 0 (w + 1)
 
 -- a position below w, as its distance from `last`, at least `least`: else 4, at its first byte
-unfoldable pub positionAt : (w least last : ℕ) → List ℕ → ℕ → Out ℕ
-positionAt w least last s at = then (field_at s at least (w - last)) λ distance next. got (last + distance) next
+unfoldable pub position_at : (w least last : ℕ) → List ℕ → ℕ → Out ℕ
+position_at w least last s at = then (field_at s at least (w - last)) λ distance next. got (last + distance) next
 
 -- k positions; each one after the first is at least 1 from the one before
-unfoldable pub positionsAt : (w k least last : ℕ) → List ℕ → ℕ → Out (List ℕ)
-positionsAt w zero least last s at = got [] at
-positionsAt w (suc k) least last s at = then (positionAt w least last s at) λ p next. push p (positionsAt w k 1 p s next)
+unfoldable pub positions_at : (w k least last : ℕ) → List ℕ → ℕ → Out (List ℕ)
+positions_at w zero least last s at = got [] at
+positions_at w (suc k) least last s at = then (position_at w least last s at) λ p next. push p (positions_at w k 1 p s next)
 
 -- the positions, and nothing after them
 unfoldable pub rest_at : (w k : ℕ) → List ℕ → ℕ → Out (List ℕ)
-rest_at w k s at = then (positionsAt w k 0 0 s at) λ ps next. atEnd ps s next
+rest_at w k s at = then (positions_at w k 0 0 s at) λ ps next. at_end ps s next
 
 -- the positions that the file s claims, where W is w
-unfoldable pub claimAt : ℕ → List ℕ → Out (List ℕ)
-claimAt w s = then (countAt w s) λ k next. rest_at w k s next
+unfoldable pub claim_at : ℕ → List ℕ → Out (List ℕ)
+claim_at w s = then (count_at w s) λ k next. rest_at w k s next
 
 -- ---- writing
 
 -- each position's distance from the one before, and the first one's from `last`
-unfoldable pub distancesFrom : ℕ → List ℕ → List ℕ
-distancesFrom last [] = []
-distancesFrom last (p ∷ ps) = (p - last) ∷ distancesFrom p ps
+unfoldable pub distances_from : ℕ → List ℕ → List ℕ
+distances_from last [] = []
+distances_from last (p ∷ ps) = (p - last) ∷ distances_from p ps
 
 -- the bytes of numbers, one after the other
-unfoldable pub bytesOfAll : List ℕ → List ℕ
+unfoldable pub bytes_of_all : List ℕ → List ℕ
 unfolding flat_map
-bytesOfAll ns = flat_map bytes_of ns
+bytes_of_all ns = flat_map bytes_of ns
 
 -- the file of a claim: version 1; the count; the first position; the distances
-unfoldable pub claimBytes : List ℕ → List ℕ
-claimBytes ps = bytesOfAll (1 ∷ length ps ∷ distancesFrom 0 ps)
+unfoldable pub claim_bytes : List ℕ → List ℕ
+claim_bytes ps = bytes_of_all (1 ∷ length ps ∷ distances_from 0 ps)
 
 -- ---- the positions of a claim
 

@@ -9,13 +9,13 @@ only true p ps = p ∷ ps
 only false p ps = ps
 
 -- of the k positions from p on, those that are marked with 1
-unfoldable pub markedFrom : List ℕ → (p k : ℕ) → List ℕ
-markedFrom mem p zero = []
-markedFrom mem p (suc k) = only (eqb (mark mem p) 1) p (markedFrom mem (p + 1) k)
+unfoldable pub marked_from : List ℕ → (p k : ℕ) → List ℕ
+marked_from mem p zero = []
+marked_from mem p (suc k) = only (eqb (mark mem p) 1) p (marked_from mem (p + 1) k)
 
 -- the positions below w that are marked with 1, ascending
-unfoldable pub positionsIn : ℕ → List ℕ → List ℕ
-positionsIn w mem = markedFrom mem 0 w
+unfoldable pub positions_in : ℕ → List ℕ → List ℕ
+positions_in w mem = marked_from mem 0 w
 
 -- a memory of w bytes in which a byte is 1 if its position is one of ps, else 0
 pub record Marks (w : ℕ) (ps mem : List ℕ) : Type 0 where

@@ -3,12 +3,12 @@
 ghost use Rattle.std.specs.Prelude.{◌≡◌, List, ℕ, ◌≤◌};
 ghost use Rattle.numbers.specs.Reading.{got, read_of};
 ghost use Rattle.reader.specs.Ends.{end_of};
-ghost use Rattle.files.specs.Table.{mostFacts};
+ghost use Rattle.files.specs.Table.{most_facts};
 ghost use Rattle.store.specs.Marking.{room};
-ghost use Rattle.claim_reader.specs.ClaimFile.{countAt, positionAt, positionsAt, rest_at, claimAt};
-ghost use Rattle.claim_reader.specs.ClaimAnswers.{IsClaim, claimed_of, positionsOf};
+ghost use Rattle.claim_reader.specs.ClaimFile.{count_at, position_at, positions_at, rest_at, claim_at};
+ghost use Rattle.claim_reader.specs.ClaimAnswers.{IsClaim, claimed_of, positions_of};
 ghost use Rattle.claim_reader.specs.Marks.{Marks};
-ghost use Rattle.claim_reader.specs.Stages.{markedAll};
+ghost use Rattle.claim_reader.specs.Stages.{marked_all};
 
 use numbers::reading::Read;
 use numbers::refusals::Refusal;
@@ -27,8 +27,8 @@ pub enum Claimed {
 
 // The count of a claim, with the place past it. It stands after the version and is at most w.
 fn count(src: &[u8], w: u32) -> Read
-    requires { w ≤ mostFacts }
-    ensures { result ≡ read_of (countAt w src.now) }
+    requires { w ≤ most_facts }
+    ensures { result ≡ read_of (count_at w src.now) }
 {
     match version(src) {
         Read::Value { value: _, next } => field(src, next, 0, w + 1),
@@ -39,7 +39,7 @@ fn count(src: &[u8], w: u32) -> Read
 // The position below w whose distance from `last`, at least `least`, stands at `at`.
 fn position(src: &[u8], at: usize, least: u32, last: u32, w: u32) -> Read
     requires { last ≤ w }
-    ensures { result ≡ read_of (positionAt w least last src.now at) }
+    ensures { result ≡ read_of (position_at w least last src.now at) }
 {
     match field(src, at, least, w - last) {
         Read::Value { value, next } => Read::Value {
@@ -52,7 +52,7 @@ fn position(src: &[u8], at: usize, least: u32, last: u32, w: u32) -> Read
 
 // Where the `count` positions from `at` on end.
 fn positions(src: &[u8], at: usize, count: u32, w: u32) -> End
-    ensures { result ≡ end_of (positionsAt w count 0 0 src.now at) }
+    ensures { result ≡ end_of (positions_at w count 0 0 src.now at) }
 {
     let mut p = at;
     let mut i: u32 = 0;
@@ -88,8 +88,8 @@ fn rest(src: &[u8], at: usize, count: u32, w: u32) -> Claimed
 
 // Reads a claim, for a room of w facts: how many positions it has, or the refusal.
 pub fn read_claim(src: &[u8], w: usize) -> Claimed
-    requires { w ≤ mostFacts }
-    ensures { result ≡ claimed_of (claimAt w src.now) }
+    requires { w ≤ most_facts }
+    ensures { result ≡ claimed_of (claim_at w src.now) }
 {
     let most = w as u32;
     match count(src, most) {
@@ -100,8 +100,8 @@ pub fn read_claim(src: &[u8], w: usize) -> Claimed
 
 // Marks the `count` positions from `at` on. They read well, so none of them is refused.
 fn mark_positions(src: &[u8], at: usize, count: u32, w: u32, mem: &mut [u8])
-    requires { ((ps : List ℕ) × (next : ℕ) × (positionsAt w count 0 0 src.now at ≡ got ps next)) × (room mem.old ≡ w) }
-    ensures { mem.new ≡ markedAll mem.old (positionsOf (positionsAt w count 0 0 src.now at)) }
+    requires { ((ps : List ℕ) × (next : ℕ) × (positions_at w count 0 0 src.now at ≡ got ps next)) × (room mem.old ≡ w) }
+    ensures { mem.new ≡ marked_all mem.old (positions_of (positions_at w count 0 0 src.now at)) }
 {
     let mut p = at;
     let mut i: u32 = 0;
@@ -126,8 +126,8 @@ fn mark_positions(src: &[u8], at: usize, count: u32, w: u32, mem: &mut [u8])
 // Marks the positions of a claim that reads well, in a memory of w bytes: afterwards a byte is 1 if its position is claimed, else 0, whatever it
 // was before.
 pub fn mark_claim(src: &[u8], w: usize, mem: &mut [u8])
-    requires { IsClaim w src.now × (w ≤ mostFacts) × (room mem.old ≡ w) }
-    ensures { Marks w (positionsOf (claimAt w src.now)) mem.new }
+    requires { IsClaim w src.now × (w ≤ most_facts) × (room mem.old ≡ w) }
+    ensures { Marks w (positions_of (claim_at w src.now)) mem.new }
 {
     store::marks::clear_first(mem, w);
     let most = w as u32;

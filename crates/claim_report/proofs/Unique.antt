@@ -5,7 +5,7 @@ use Prim.Native.Nat.{ℕ}
 use contract.Lifetimes.{Lfts}
 use denote.Triple.Clauses.{AtExit}
 use borrow.Fn.Kinds.{Dens, ended_of}
-use Rattle.words.proofs.Unique.{written-unique}
+use Rattle.words.proofs.Unique.{written_unique}
 use Rattle.claim_report.proofs.written.first_line.Reads as first-line
 use Rattle.claim_report.proofs.written.first_line.Kinds as first-line-kinds
 use Rattle.claim_report.proofs.written.verdict_line.Reads as verdict-line
@@ -17,24 +17,24 @@ use Rattle.claim_report.proofs.checked.checked_line.Kinds as checked-line-kinds
 
 -- ---- claim writing
 
-pub first-line-fixes : (κs : Lfts 1) (a : Dens κs first-line-kinds.ps) (x x' : ℕ)
+pub first_line_fixes : (κs : Lfts 1) (a : Dens κs first-line-kinds.ps) (x x' : ℕ)
     (s s' : AtExit (ended_of 1 first-line-kinds.ps first-line-kinds.r) κs)
     → first-line.Post κs a x s → first-line.Post κs a x' s' → (x ≡ x') × (s.1.0.now ≡ s'.1.0.now)
-first-line-fixes κs a x x' s s' = written-unique
+first_line_fixes κs a x x' s s' = written_unique
 
-pub verdict-line-fixes : (κs : Lfts 2) (a : Dens κs verdict-line-kinds.ps) (x x' : ℕ)
+pub verdict_line_fixes : (κs : Lfts 2) (a : Dens κs verdict-line-kinds.ps) (x x' : ℕ)
     (s s' : AtExit (ended_of 2 verdict-line-kinds.ps verdict-line-kinds.r) κs)
     → verdict-line.Post κs a x s → verdict-line.Post κs a x' s' → (x ≡ x') × (s.1.1.0.now ≡ s'.1.1.0.now)
-verdict-line-fixes κs a x x' s s' = written-unique
+verdict_line_fixes κs a x x' s s' = written_unique
 
-pub bytes-line-fixes : (κs : Lfts 1) (a : Dens κs bytes-line-kinds.ps) (x x' : ℕ)
+pub bytes_line_fixes : (κs : Lfts 1) (a : Dens κs bytes-line-kinds.ps) (x x' : ℕ)
     (s s' : AtExit (ended_of 1 bytes-line-kinds.ps bytes-line-kinds.r) κs)
     → bytes-line.Post κs a x s → bytes-line.Post κs a x' s' → (x ≡ x') × (s.1.0.now ≡ s'.1.0.now)
-bytes-line-fixes κs a x x' s s' = written-unique
+bytes_line_fixes κs a x x' s s' = written_unique
 
 -- ---- the claim check
 
-pub checked-line-fixes : (κs : Lfts 1) (a : Dens κs checked-line-kinds.ps) (x x' : ℕ)
+pub checked_line_fixes : (κs : Lfts 1) (a : Dens κs checked-line-kinds.ps) (x x' : ℕ)
     (s s' : AtExit (ended_of 1 checked-line-kinds.ps checked-line-kinds.r) κs)
     → checked-line.Post κs a x s → checked-line.Post κs a x' s' → (x ≡ x') × (s.1.0.now ≡ s'.1.0.now)
-checked-line-fixes κs a x x' s s' = written-unique
+checked_line_fixes κs a x x' s s' = written_unique

@@ -1,25 +1,25 @@
 -- The lines that the programs on claims print of an answer. What they have in common with a listing's lines (document 01, "Reference tables and
--- results") reads as it does there; the first line of an answer of claim writing is a listing's `lineOfReply`.
+-- results") reads as it does there; the first line of an answer of claim writing is a listing's `line_of_reply`.
 use Rattle.std.specs.Prelude.{List, [], ℕ, eqb}
 use Rattle.numbers.specs.Reading.{pick}
-use Rattle.text.specs.Listing.{bytesLine, acceptedLine, claimRefusedLine}
-use Rattle.report.specs.Answers.{lineOfVerdict}
+use Rattle.text.specs.Listing.{bytes_line, accepted_line, claim_refused_line}
+use Rattle.report.specs.Answers.{line_of_verdict}
 use Rattle.check_call.specs.declared.answer.Reply.{Reply}
 use Rattle.claim_write_call.specs.declared.answer.WriteAnswer.{WriteAnswer}
-use Rattle.claim_write_call.specs.Answers.{whereWritten}
+use Rattle.claim_write_call.specs.Answers.{where_written}
 
 -- ---- claim writing
 
 -- the verdict on a table of n threads; a refusal has no line
-abbrev pub writtenVerdictLine : ℕ → WriteAnswer → List ℕ
-writtenVerdictLine n = whereWritten (λ verdict bytes. lineOfVerdict n verdict) []
+abbrev pub written_verdict_line : ℕ → WriteAnswer → List ℕ
+written_verdict_line n = where_written (λ verdict bytes. line_of_verdict n verdict) []
 
 -- how many bytes the claim takes
-abbrev pub bytesLineOf : WriteAnswer → List ℕ
-bytesLineOf = whereWritten (λ verdict bytes. bytesLine bytes) []
+abbrev pub bytes_line_of : WriteAnswer → List ℕ
+bytes_line_of = where_written (λ verdict bytes. bytes_line bytes) []
 
 -- ---- the claim check
 
 -- of an answer's reply: number 0 is accepted, and its value is the claim's count
-abbrev pub lineOfClaimReply : Reply → List ℕ
-lineOfClaimReply r = pick (eqb r.number 0) (acceptedLine r.value) (claimRefusedLine r.number r.value r.origin)
+abbrev pub line_of_claim_reply : Reply → List ℕ
+line_of_claim_reply r = pick (eqb r.number 0) (accepted_line r.value) (claim_refused_line r.number r.value r.origin)

@@ -1,8 +1,8 @@
 // The lines of an answer of claim writing: the first for any answer, and two more where a claim is written.
 ghost use Rattle.words.specs.Text.{Written};
-ghost use Rattle.claim_write_call.specs.Answers.{writeReplyOf};
-ghost use Rattle.report.specs.Answers.{threadsOf, lineOfReply};
-ghost use Rattle.claim_report.specs.ClaimLines.{writtenVerdictLine, bytesLineOf};
+ghost use Rattle.claim_write_call.specs.Answers.{write_reply_of};
+ghost use Rattle.report.specs.Answers.{threads_of, line_of_reply};
+ghost use Rattle.claim_report.specs.ClaimLines.{written_verdict_line, bytes_line_of};
 
 use check_call::answer::Answer;
 use claim_write_call::answer::{WriteAnswer, write_reply_of};
@@ -10,7 +10,7 @@ use text::lines::{ROOM, facts_line, refused_line};
 
 // The first line of an answer: the number of facts, or the refusal. Gives its length.
 pub fn first_line(answer: WriteAnswer, out: &mut [u8; ROOM]) -> usize
-    ensures { Written (lineOfReply (writeReplyOf answer)) out.old out.new result }
+    ensures { Written (line_of_reply (write_reply_of answer)) out.old out.new result }
 {
     let reply = write_reply_of(answer);
     let number = reply.number as usize;
@@ -23,7 +23,7 @@ pub fn first_line(answer: WriteAnswer, out: &mut [u8; ROOM]) -> usize
 
 // The line of an answer's verdict. Gives its length; an answer without a verdict has no such line, and its length is 0.
 pub fn verdict_line(table: &[u8], answer: WriteAnswer, out: &mut [u8; ROOM]) -> usize
-    ensures { Written (writtenVerdictLine (threadsOf table.now) answer) out.old out.new result }
+    ensures { Written (written_verdict_line (threads_of table.now) answer) out.old out.new result }
 {
     match answer {
         WriteAnswer::Written {
@@ -40,7 +40,7 @@ pub fn verdict_line(table: &[u8], answer: WriteAnswer, out: &mut [u8; ROOM]) -> 
 
 // The line of the number of bytes that the claim takes. Gives its length; an answer without a claim has no such line, and its length is 0.
 pub fn bytes_line(answer: WriteAnswer, out: &mut [u8; ROOM]) -> usize
-    ensures { Written (bytesLineOf answer) out.old out.new result }
+    ensures { Written (bytes_line_of answer) out.old out.new result }
 {
     match answer {
         WriteAnswer::Written {

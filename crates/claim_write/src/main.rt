@@ -2,7 +2,7 @@
 // the verdict and the number of bytes written; or, where the table is refused, the refusal, and no file is written. Why a table is refused, and what
 // is wrong with a file, is said on standard error.
 ghost use Rattle.std.specs.Prelude.{◌≡◌, ◌+◌, length};
-ghost use Rattle.files.specs.Table.{mostFacts};
+ghost use Rattle.files.specs.Table.{most_facts};
 ghost use Rattle.claim_write_call.specs.AnyTable.{AnyWritten};
 
 use claim_report::written::{bytes_line, first_line, verdict_line};
@@ -16,7 +16,7 @@ use text::lines::ROOM;
 
 // Working memory for any table: the largest W.
 fn memory() -> [u8; MOST_FACTS]
-    ensures { mostFacts ≡ length result }
+    ensures { most_facts ≡ length result }
 {
     [0; MOST_FACTS]
 }
@@ -26,7 +26,7 @@ const CLAIM_MOST: usize = MOST_FACTS + 5;
 
 // Space for any claim.
 fn space() -> [u8; CLAIM_MOST]
-    ensures { mostFacts + 5 ≡ length result }
+    ensures { most_facts + 5 ≡ length result }
 {
     [0; CLAIM_MOST]
 }

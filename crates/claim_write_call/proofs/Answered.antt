@@ -8,35 +8,35 @@ use native.Mathlib.Omega.{arith}
 use lib.ListN.{length, drop, replicate}
 use lib.Seq.{sets}
 use Rattle.files.specs.Table.{Table, W}
-use Rattle.store.proofs.MarkLaws.{first-cleared}
+use Rattle.store.proofs.MarkLaws.{first_cleared}
 use Rattle.verdict.specs.declared.search.Verdict.{Verdict}
 use Rattle.check_call.specs.declared.answer.Answer.{Answer}
 use Rattle.check_call.specs.declared.answer.Answer.TheVariants as check
 use Rattle.check_call.specs.Checking.{Checked}
 use Rattle.check_call.proofs.Exactly.{check_done}
-use Rattle.check_call.proofs.Answered.{check-answered}
+use Rattle.check_call.proofs.Answered.{check_answered}
 use Rattle.claim_write_call.specs.declared.answer.WriteAnswer.{WriteAnswer}
 use Rattle.claim_write_call.specs.declared.answer.WriteAnswer.TheVariants.{Written, Refused, Short, Over, NoSpace}
-use Rattle.claim_write_call.specs.ClaimWriting.{ClaimOf, ClaimWritten, refused, short, over, no-space, written}
-use Rattle.claim_write_call.proofs.PositionsOfFacts.{claim-of-marks}
+use Rattle.claim_write_call.specs.ClaimWriting.{ClaimOf, ClaimWritten, refused, short, over, no_space, written}
+use Rattle.claim_write_call.proofs.PositionsOfFacts.{claim_of_marks}
 
 module _ (s : List ℕ) (budget : ℕ) (m d : List ℕ) where
   abbrev Answered : Type 0
   Answered = (r : WriteAnswer) × (m' : List ℕ) × (d' : List ℕ) × ClaimWritten s budget m d r m' d'
 
   -- the claim has room in the space or not
-  by-space : {count : ℕ} {verdict : Verdict} {m₁ : List ℕ} {T : Table} {bytes : List ℕ} → Checked s budget m (check.Done count verdict) m₁
+  by_space : {count : ℕ} {verdict : Verdict} {m₁ : List ℕ} {T : Table} {bytes : List ℕ} → Checked s budget m (check.Done count verdict) m₁
       → ClaimOf s T bytes → Dec (length d < length bytes) → Answered
-  by-space {T = T} {bytes} c of (yes l) =
-      (NoSpace (length bytes), replicate (W T) 0 ++ drop (W T) m, d, no-space c of l (first-cleared m (W T) refl))
-  by-space {count} {verdict} {m₁} {bytes = bytes} c of (no l) =
+  by_space {T = T} {bytes} c of (yes l) =
+      (NoSpace (length bytes), replicate (W T) 0 ++ drop (W T) m, d, no_space c of l (first_cleared m (W T) refl))
+  by_space {count} {verdict} {m₁} {bytes = bytes} c of (no l) =
       (Written count verdict (length bytes), m₁, sets d 0 bytes, written c of (omega arith))
 
   after_check : (a : Answer) {m₁ : List ℕ} → Checked s budget m a m₁ → Answered
-  after_check (check.Done count verdict) c = by-space c (claim-of-marks (check_done c)) (dec_lt _ _)
+  after_check (check.Done count verdict) c = by_space c (claim_of_marks (check_done c)) (dec_lt _ _)
   after_check (check.Refused x) {m₁} c = (Refused x, m₁, d, refused c)
   after_check (check.Short w) {m₁} c = (Short w, m₁, d, short c)
   after_check (check.Over b) {m₁} c = (Over b, m₁, d, over c)
 
-  pub claim-writing-answered : (r : WriteAnswer) × (m' : List ℕ) × (d' : List ℕ) × ClaimWritten s budget m d r m' d'
-  claim-writing-answered = let (a, m₁, c) = check-answered s budget m in after_check a c
+  pub claim_writing_answered : (r : WriteAnswer) × (m' : List ℕ) × (d' : List ℕ) × ClaimWritten s budget m d r m' d'
+  claim_writing_answered = let (a, m₁, c) = check_answered s budget m in after_check a c

@@ -12,7 +12,7 @@ use Rattle.store.specs.Clearing.{Cleared}
 use Rattle.verdict.specs.declared.search.Verdict.{Verdict}
 use Rattle.check_call.specs.declared.answer.Answer.TheVariants as check
 use Rattle.check_call.specs.Checking.{Checked}
-use Rattle.claim_reader.specs.ClaimFile.{AscendingBelow, claimBytes}
+use Rattle.claim_reader.specs.ClaimFile.{AscendingBelow, claim_bytes}
 use Rattle.claim_write_call.specs.declared.answer.WriteAnswer.{WriteAnswer}
 use Rattle.claim_write_call.specs.declared.answer.WriteAnswer.TheVariants.{Written, Refused, Short, Over, NoSpace}
 
@@ -28,7 +28,7 @@ pub record ClaimOf (s : List ℕ) (T : Table) (bytes : List ℕ) : Type 0 where
   pub is : table_at s ≡ got T next
   pub positions : List ℕ
   pub facts : FactPositions T positions
-  pub written : bytes ≡ claimBytes positions
+  pub written : bytes ≡ claim_bytes positions
 
 -- "A check or writing goes on to 8, then 12." "A claim is written on either verdict."
 pub data ClaimWritten (s : List ℕ) (budget : ℕ) (m d : List ℕ) : WriteAnswer → List ℕ → List ℕ → Type 0 where
@@ -37,7 +37,7 @@ pub data ClaimWritten (s : List ℕ) (budget : ℕ) (m d : List ℕ) : WriteAnsw
   short : {w : ℕ} {m' : List ℕ} → Checked s budget m (check.Short w) m' → ClaimWritten s budget m d (Short w) m' d
   over : {b : ℕ} {m' : List ℕ} → Checked s budget m (check.Over b) m' → ClaimWritten s budget m d (Over b) m' d
   -- 12: the check is done, and the space is shorter than the claim; the first W bytes are cleared, and the space is untouched
-  no-space : {count : ℕ} {verdict : Verdict} {m₁ m' : List ℕ} {T : Table} {bytes : List ℕ} → Checked s budget m (check.Done count verdict) m₁
+  no_space : {count : ℕ} {verdict : Verdict} {m₁ m' : List ℕ} {T : Table} {bytes : List ℕ} → Checked s budget m (check.Done count verdict) m₁
       → ClaimOf s T bytes → length d < length bytes → Cleared (W T) m m' → ClaimWritten s budget m d (NoSpace (length bytes)) m' d
   -- 0: the check is done, and the memory is as it leaves it; the claim stands at the start of the space, and no other byte of it is changed
   written : {count : ℕ} {verdict : Verdict} {m' : List ℕ} {T : Table} {bytes : List ℕ} → Checked s budget m (check.Done count verdict) m'

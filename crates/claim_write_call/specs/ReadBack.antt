@@ -6,7 +6,7 @@ use Rattle.files.specs.Table.{Table, Sound, W}
 use Rattle.model.specs.Rules.{Derives}
 use Rattle.verdict.specs.declared.search.Verdict.{Verdict}
 use Rattle.verdict.specs.Judged.{Answers}
-use Rattle.claim_reader.specs.ClaimFile.{claimAt}
+use Rattle.claim_reader.specs.ClaimFile.{claim_at}
 use Rattle.claim_write_call.specs.ClaimWriting.{ClaimOf}
 
 -- the file is the claim of the facts of the table that s holds, of so many facts and with this verdict; a claim reader takes all its bytes and
@@ -17,4 +17,4 @@ pub record WrittenClaim (s : List ℕ) (count : ℕ) (verdict : Verdict) (bytes 
   pub claim : ClaimOf s table file
   pub counts : count ≡ length claim.positions
   pub judged : Answers table (Derives table) verdict
-  pub reads : claimAt (W table) file ≡ got claim.positions bytes
+  pub reads : claim_at (W table) file ≡ got claim.positions bytes

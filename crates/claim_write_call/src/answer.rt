@@ -1,6 +1,6 @@
 // The answers of claim writing, and document 01's number, origin and value of each.
 ghost use Rattle.std.specs.Prelude.{◌≡◌};
-ghost use Rattle.claim_write_call.specs.Answers.{writeReplyOf};
+ghost use Rattle.claim_write_call.specs.Answers.{write_reply_of};
 
 use check_call::answer::{Reply, plain_reply, refusal_reply};
 use numbers::refusals::Refusal;
@@ -35,7 +35,7 @@ pub enum WriteAnswer {
 
 // The number, the origin and the value of an answer.
 pub fn write_reply_of(answer: WriteAnswer) -> Reply
-    ensures { result ≡ writeReplyOf answer }
+    ensures { result ≡ write_reply_of answer }
 {
     match answer {
         WriteAnswer::Written {

@@ -1,6 +1,6 @@
 // Writing a claim: a table's bytes, working memory, a budget and a space in; an answer out, and the claim of the table's facts in the space.
 ghost use Rattle.std.specs.Prelude.{◌≤◌, length};
-ghost use Rattle.files.specs.Table.{mostFacts};
+ghost use Rattle.files.specs.Table.{most_facts};
 ghost use Rattle.claim_write_call.specs.ClaimWriting.{ClaimWritten};
 ghost use Rattle.claim_write_call.specs.WriteStages.{WOf, MarksWritten};
 
@@ -29,7 +29,7 @@ fn write_marked(
     count: usize,
     verdict: Verdict,
 ) -> WriteAnswer
-    requires { (w ≤ mostFacts) × (w ≤ length mem.old) }
+    requires { (w ≤ most_facts) × (w ≤ length mem.old) }
     ensures { MarksWritten w count verdict mem.old space.old result mem.new space.new }
 {
     let needed = claim_width(mem, w);

@@ -14,16 +14,16 @@ use Rattle.files.specs.Table.{Table, W}
 use Rattle.files.proofs.Computed.{reads}
 use Rattle.model.specs.Rules.{Fact}
 use Rattle.model.specs.Errors.{Witness}
-use Rattle.model.specs.Positions.{pos, baseP, baseQ, factAt}
-use Rattle.model.specs.Claims.{Finding, accepted, lacks-start, not-closed, allows-error}
+use Rattle.model.specs.Positions.{pos, base_p, base_q, fact_at}
+use Rattle.model.specs.Claims.{Finding, accepted, lacks_start, not_closed, allows_error}
 use Rattle.model.proofs.Decide.{decided, each?}
-use Rattle.model.proofs.Decide.Least.{exact?, exact-listed, exact-count, exact-verdict}
+use Rattle.model.proofs.Decide.Least.{exact?, exact_listed, exact_count, exact_verdict}
 use Rattle.model.proofs.Decide.Errors.{verdict?}
 use Rattle.model.proofs.Decide.Claims.{finding?}
 use Rattle.check_call.specs.declared.answer.Reply.{Reply}
 use Rattle.check_call.specs.Answers.{plain, told}
 use Rattle.claim_reader.proofs.Computed.{claims}
-use Rattle.claim_check_call.specs.Answers.{claimReplyOf, answer_of}
+use Rattle.claim_check_call.specs.Answers.{claim_reply_of, answer_of}
 use Rattle.claims.specs.Cases.{Case, refused, checked, claimed, RefusedAs, ReadAs, CheckedAs, ClaimedAs, Shown, cases}
 
 -- ---- the test: where it passes, it gives the proof
@@ -46,20 +46,20 @@ reply? a b =
     (λ e. (ap (λ x. x.number) e, (ap (λ x. x.origin) e, ap (λ x. x.value) e)))
     (Dec.and (ℕ_discrete a.number b.number) (Dec.and (ℕ_discrete a.origin b.origin) (ℕ_discrete a.value b.value)))
 
-try-refused : {A : Type 0} (number value : ℕ) (o : Out A) → Option (RefusedAs number value o)
+try_refused : {A : Type 0} (number value : ℕ) (o : Out A) → Option (RefusedAs number value o)
 unfolding given reply?
-try-refused number value (got a next) = none
-try-refused number value (bad r) = given (reply? (told 0 r) (plain number value)) some
+try_refused number value (got a next) = none
+try_refused number value (bad r) = given (reply? (told 0 r) (plain number value)) some
 
-try-read : {A : Type 0} {B : A → Type 0} → ((a : A) → Option (B a)) → (o : Out A) → Option (ReadAs B o)
-try-read try (got a next) = try a
-try-read try (bad r) = none
+try_read : {A : Type 0} {B : A → Type 0} → ((a : A) → Option (B a)) → (o : Out A) → Option (ReadAs B o)
+try_read try (got a next) = try a
+try_read try (bad r) = none
 
 -- a pass that finds nothing new is the last that matters, so as many passes as facts are enough
-try-checked : (w count : ℕ) (facts : List Fact) (positions : List ℕ) (verdict : Option Witness) (T : Table)
+try_checked : (w count : ℕ) (facts : List Fact) (positions : List ℕ) (verdict : Option Witness) (T : Table)
     → Option (CheckedAs w count facts positions verdict T)
-unfolding given ℕ_discrete lists? dec_lt exact? verdict? W pos baseP baseQ
-try-checked w count facts positions verdict T =
+unfolding given ℕ_discrete lists? dec_lt exact? verdict? W pos base_p base_q
+try_checked w count facts positions verdict T =
     given (dec_lt 0 T.n) λ threads.
     given (ℕ_discrete (W T) w) λ wide.
     given (exact? T (length facts) facts) λ exact.
@@ -69,32 +69,32 @@ try-checked w count facts positions verdict T =
     some
     (record {
       wide = wide;
-      counted = rw counted at (exact-count exact);
-      exactly = exact-listed exact;
+      counted = rw counted at (exact_count exact);
+      exactly = exact_listed exact;
       standing = standing;
-      judged = exact-verdict exact judged;
+      judged = exact_verdict exact judged;
     })
 
 -- the finding that a number and a value may tell
-findingBy : ℕ → ℕ → Finding
-findingBy number value =
-    pick (eqb number 9) (lacks-start value) (pick (eqb number 10) (not-closed value) (pick (eqb number 11) (allows-error value) accepted))
+finding_by : ℕ → ℕ → Finding
+finding_by number value =
+    pick (eqb number 9) (lacks_start value) (pick (eqb number 10) (not_closed value) (pick (eqb number 11) (allows_error value) accepted))
 
-try-claimed : (positions : List ℕ) (number value : ℕ) (T : Table) (ps : List ℕ) → Option (ClaimedAs positions number value T ps)
-unfolding given lists? reply? dec_lt finding? findingBy factAt
-try-claimed positions number value T ps =
-    let finding = findingBy number value in
+try_claimed : (positions : List ℕ) (number value : ℕ) (T : Table) (ps : List ℕ) → Option (ClaimedAs positions number value T ps)
+unfolding given lists? reply? dec_lt finding? finding_by fact_at
+try_claimed positions number value T ps =
+    let finding = finding_by number value in
     given (dec_lt 0 T.n) λ threads.
     given (lists? ps positions) λ same.
-    given (finding? T threads (map (factAt T) ps) finding) λ finds.
-    given (reply? (claimReplyOf (answer_of (length ps) finding)) (plain number value)) λ answer.
+    given (finding? T threads (map (fact_at T) ps) finding) λ finds.
+    given (reply? (claim_reply_of (answer_of (length ps) finding)) (plain number value)) λ answer.
     some (record { same = same; finding = finding; finds = finds; answer = answer })
 
 try : (c : Case) → Option (Shown c)
-unfolding reads claims try-refused try-read try-checked try-claimed
-try (refused s number value) = try-refused number value (reads s)
-try (checked s w count facts positions verdict) = try-read (try-checked w count facts positions verdict) (reads s)
-try (claimed s c positions number value) = try-read (λ T. try-read (try-claimed positions number value T) (claims (W T) c)) (reads s)
+unfolding reads claims try_refused try_read try_checked try_claimed
+try (refused s number value) = try_refused number value (reads s)
+try (checked s w count facts positions verdict) = try_read (try_checked w count facts positions verdict) (reads s)
+try (claimed s c positions number value) = try_read (λ T. try_read (try_claimed positions number value T) (claims (W T) c)) (reads s)
 
 passes? : {A : Type 0} (o : Option A) → Dec (IsSome o)
 passes? none = no (λ x. x)

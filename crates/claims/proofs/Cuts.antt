@@ -5,14 +5,14 @@ use mathlib.Core.List.{List}
 use Prim.Native.Nat.{ℕ, ◌+◌, ◌≤◌}
 use native.Mathlib.Omega.{arith}
 use lib.ListN.{take}
-use Rattle.files.specs.Table.{Table, W, mostFacts}
-use Rattle.files.proofs.TableLaws.{table-sound}
-use Rattle.files.proofs.WLaws.{W-max}
-use Rattle.files.proofs.CutTable.{tableReach, table-cut}
+use Rattle.files.specs.Table.{Table, W, most_facts}
+use Rattle.files.proofs.TableLaws.{table_sound}
+use Rattle.files.proofs.WLaws.{W_max}
+use Rattle.files.proofs.CutTable.{table_reach, table_cut}
 use Rattle.check_call.specs.declared.answer.Answer.{Answer}
 use Rattle.check_call.specs.Checking as check
 use Rattle.check_call.specs.Checking.{Checked}
-use Rattle.claim_reader.proofs.CutClaim.{claim-cut}
+use Rattle.claim_reader.proofs.CutClaim.{claim_cut}
 use Rattle.claim_check_call.specs.declared.answer.ClaimAnswer.{ClaimAnswer}
 use Rattle.claim_check_call.specs.ClaimChecking as claims
 use Rattle.claim_check_call.specs.ClaimChecking.{AgainstTable, ClaimChecked}
@@ -20,37 +20,37 @@ use Rattle.claim_write_call.specs.declared.answer.WriteAnswer.{WriteAnswer}
 use Rattle.claim_write_call.specs.ClaimWriting as writing
 use Rattle.claim_write_call.specs.ClaimWriting.{ClaimOf, ClaimWritten}
 
-against-cut : {T : Table} {c m m' : List ℕ} {a : ClaimAnswer} (k : ℕ) → W T + 9 ≤ k → AgainstTable T (take k c) m a m' → AgainstTable T c m a m'
-against-cut k far (claims.short l) = claims.short l
-against-cut {T} {c} k far (claims.claim-refused h e) = claims.claim-refused h (sym (claim-cut (W T) c k far) ∙ e)
-against-cut {T} {c} k far (claims.claim-read h e o) = claims.claim-read h (sym (claim-cut (W T) c k far) ∙ e) o
+against_cut : {T : Table} {c m m' : List ℕ} {a : ClaimAnswer} (k : ℕ) → W T + 9 ≤ k → AgainstTable T (take k c) m a m' → AgainstTable T c m a m'
+against_cut k far (claims.short l) = claims.short l
+against_cut {T} {c} k far (claims.claim_refused h e) = claims.claim_refused h (sym (claim_cut (W T) c k far) ∙ e)
+against_cut {T} {c} k far (claims.claim_read h e o) = claims.claim_read h (sym (claim_cut (W T) c k far) ∙ e) o
 
-module _ {s : List ℕ} (j : ℕ) (far : tableReach ≤ j) where
-  pub check-cut : {budget : ℕ} {m m' : List ℕ} {a : Answer} → Checked (take j s) budget m a m' → Checked s budget m a m'
-  check-cut (check.refused e) = check.refused (sym (table-cut s j far) ∙ e)
-  check-cut (check.read e o) = check.read (sym (table-cut s j far) ∙ e) o
+module _ {s : List ℕ} (j : ℕ) (far : table_reach ≤ j) where
+  pub check_cut : {budget : ℕ} {m m' : List ℕ} {a : Answer} → Checked (take j s) budget m a m' → Checked s budget m a m'
+  check_cut (check.refused e) = check.refused (sym (table_cut s j far) ∙ e)
+  check_cut (check.read e o) = check.read (sym (table_cut s j far) ∙ e) o
 
-  pub claim-check-cut : {c m m' : List ℕ} {a : ClaimAnswer} (k : ℕ) → mostFacts + 9 ≤ k → ClaimChecked (take j s) (take k c) m a m'
+  pub claim_check_cut : {c m m' : List ℕ} {a : ClaimAnswer} (k : ℕ) → most_facts + 9 ≤ k → ClaimChecked (take j s) (take k c) m a m'
       → ClaimChecked s c m a m'
-  claim-check-cut k long (claims.table-refused e) = claims.table-refused (sym (table-cut s j far) ∙ e)
-  claim-check-cut k long (claims.table-read {T} {next} e o) =
-      let is = sym (table-cut s j far) ∙ e in
-      claims.table-read is (against-cut k (omega (arith, W-max T (table-sound s T next is))) o)
+  claim_check_cut k long (claims.table_refused e) = claims.table_refused (sym (table_cut s j far) ∙ e)
+  claim_check_cut k long (claims.table_read {T} {next} e o) =
+      let is = sym (table_cut s j far) ∙ e in
+      claims.table_read is (against_cut k (omega (arith, W_max T (table_sound s T next is))) o)
 
-  claim-of-cut : {T : Table} {bytes : List ℕ} → ClaimOf (take j s) T bytes → ClaimOf s T bytes
-  claim-of-cut of =
+  claim_of_cut : {T : Table} {bytes : List ℕ} → ClaimOf (take j s) T bytes → ClaimOf s T bytes
+  claim_of_cut of =
       record {
         next = of.next;
-        is = sym (table-cut s j far) ∙ of.is;
+        is = sym (table_cut s j far) ∙ of.is;
         positions = of.positions;
         facts = of.facts;
         written = of.written;
       }
 
-  pub claim-writing-cut : {budget : ℕ} {m d m' d' : List ℕ} {a : WriteAnswer} → ClaimWritten (take j s) budget m d a m' d'
+  pub claim_writing_cut : {budget : ℕ} {m d m' d' : List ℕ} {a : WriteAnswer} → ClaimWritten (take j s) budget m d a m' d'
       → ClaimWritten s budget m d a m' d'
-  claim-writing-cut (writing.refused c) = writing.refused (check-cut c)
-  claim-writing-cut (writing.short c) = writing.short (check-cut c)
-  claim-writing-cut (writing.over c) = writing.over (check-cut c)
-  claim-writing-cut (writing.no-space c of l z) = writing.no-space (check-cut c) (claim-of-cut of) l z
-  claim-writing-cut (writing.written c of l) = writing.written (check-cut c) (claim-of-cut of) l
+  claim_writing_cut (writing.refused c) = writing.refused (check_cut c)
+  claim_writing_cut (writing.short c) = writing.short (check_cut c)
+  claim_writing_cut (writing.over c) = writing.over (check_cut c)
+  claim_writing_cut (writing.no_space c of l z) = writing.no_space (check_cut c) (claim_of_cut of) l z
+  claim_writing_cut (writing.written c of l) = writing.written (check_cut c) (claim_of_cut of) l

@@ -1,9 +1,9 @@
 -- What the check calls safe, claim writing writes, and the claim check accepts (document 00, demand 3: "When our check, with budget, memory and room
 -- for the claim enough, says safe, the claim that it writes is accepted"). A finished check is finished with every memory that is long enough, and
 -- tells the same; so claim writing comes to the claim of the facts, which has room. The claim check reads it as exactly these facts.
---     done-is-written    where the check is done and there is room, the claim is written, with the check's count and verdict
---     safe-accepted      a claim that was written with the verdict "safe" is accepted
---     safe-written       both
+--     done_is_written    where the check is done and there is room, the claim is written, with the check's count and verdict
+--     safe_accepted      a claim that was written with the verdict "safe" is accepted
+--     safe_written       both
 use mathlib.Core.Path.{◌≡◌, sym, ap, subst, subst⁻¹, ◌∙◌}
 use mathlib.Core.List.{List}
 use Prim.Native.Nat.{ℕ, ◌≤◌}
@@ -17,43 +17,43 @@ use Rattle.verdict.specs.declared.search.Verdict.{Verdict}
 use Rattle.verdict.specs.declared.search.Verdict.TheVariants.{Safe}
 use Rattle.check_call.specs.declared.answer.Answer.TheVariants.{Done}
 use Rattle.check_call.specs.Checking.{Checked}
-use Rattle.check_call.proofs.Unique.{got-table}
-use Rattle.check_call.proofs.Exactly.{done-again}
+use Rattle.check_call.proofs.Unique.{got_table}
+use Rattle.check_call.proofs.Exactly.{done_again}
 use Rattle.claim_check_call.specs.declared.answer.ClaimAnswer.TheVariants.{Accepted}
-use Rattle.claim_check_call.proofs.ClaimCases.{table-was-read, claim-was-read, answer-by-finding}
+use Rattle.claim_check_call.proofs.ClaimCases.{table_was_read, claim_was_read, answer_by_finding}
 use Rattle.claim_write_call.specs.declared.answer.WriteAnswer.{WriteAnswer}
 use Rattle.claim_write_call.specs.declared.answer.WriteAnswer.TheVariants.{Written}
-use Rattle.claim_write_call.specs.ClaimWriting.{ClaimOf, ClaimWritten, refused, short, over, no-space, written}
-use Rattle.claim_write_call.proofs.WrittenLaws.{written-claim, safe-claim-accepted}
+use Rattle.claim_write_call.specs.ClaimWriting.{ClaimOf, ClaimWritten, refused, short, over, no_space, written}
+use Rattle.claim_write_call.proofs.WrittenLaws.{written_claim, safe_claim_accepted}
 use Rattle.claims.specs.Owed.{IsAccepted, RoomForClaim}
 
-done-parts : {count count' : ℕ} {verdict verdict' : Verdict} → Done count verdict ≡ Done count' verdict' → (count ≡ count') × (verdict ≡ verdict')
-done-parts e = (cc, cc)
+done_parts : {count count' : ℕ} {verdict verdict' : Verdict} → Done count verdict ≡ Done count' verdict' → (count ≡ count') × (verdict ≡ verdict')
+done_parts e = (cc, cc)
 
 module _ {s : List ℕ} {T : Table} {n : ℕ} (e : table_at s ≡ got T n) where
-  pub done-is-written : {budget : ℕ} {m m' k d k' d' : List ℕ} {count : ℕ} {verdict : Verdict} {a : WriteAnswer}
+  pub done_is_written : {budget : ℕ} {m m' k d k' d' : List ℕ} {count : ℕ} {verdict : Verdict} {a : WriteAnswer}
       → Checked s budget m (Done count verdict) m' → W T ≤ length k → RoomForClaim s T d → ClaimWritten s budget k d a k' d'
       → (bytes : ℕ) × (a ≡ Written count verdict bytes)
-  done-is-written c room fits (refused c') = let q = done-again e room c c' in never (cc)
-  done-is-written c room fits (short c') = let q = done-again e room c c' in never (cc)
-  done-is-written c room fits (over c') = let q = done-again e room c c' in never (cc)
-  done-is-written c room fits (no-space {bytes = bytes} c' of l z) =
-      let mine = subst⁻¹ (λ T. ClaimOf s T bytes) (got-table (sym e ∙ of.is)) of in
+  done_is_written c room fits (refused c') = let q = done_again e room c c' in never (cc)
+  done_is_written c room fits (short c') = let q = done_again e room c c' in never (cc)
+  done_is_written c room fits (over c') = let q = done_again e room c c' in never (cc)
+  done_is_written c room fits (no_space {bytes = bytes} c' of l z) =
+      let mine = subst⁻¹ (λ T. ClaimOf s T bytes) (got_table (sym e ∙ of.is)) of in
       absurd (omega (arith, fits bytes mine))
-  done-is-written c room fits (written {bytes = bytes} c' of l) =
-      let (p, q) = done-parts (done-again e room c c') in
+  done_is_written c room fits (written {bytes = bytes} c' of l) =
+      let (p, q) = done_parts (done_again e room c c') in
       (length bytes, λ i. Written (p i) (q i) (length bytes))
 
-  pub safe-accepted : {budget : ℕ} {m d m' d' : List ℕ} {count bytes : ℕ} → ClaimWritten s budget m d (Written count Safe bytes) m' d'
+  pub safe_accepted : {budget : ℕ} {m d m' d' : List ℕ} {count bytes : ℕ} → ClaimWritten s budget m d (Written count Safe bytes) m' d'
       → IsAccepted s T (take bytes d') count
-  safe-accepted w m m' a room h =
-      let k = written-claim w in
-      let long = subst (λ T. W T ≤ length m) (got-table (sym e ∙ k.claim.is)) room in
-      answer-by-finding (safe-claim-accepted k) (claim-was-read long k.reads (table-was-read k.claim.is h)) ∙ ap Accepted (sym k.counts)
+  safe_accepted w m m' a room h =
+      let k = written_claim w in
+      let long = subst (λ T. W T ≤ length m) (got_table (sym e ∙ k.claim.is)) room in
+      answer_by_finding (safe_claim_accepted k) (claim_was_read long k.reads (table_was_read k.claim.is h)) ∙ ap Accepted (sym k.counts)
 
-  pub safe-written : {budget : ℕ} {m m' k d k' d' : List ℕ} {count : ℕ} {a : WriteAnswer}
+  pub safe_written : {budget : ℕ} {m m' k d k' d' : List ℕ} {count : ℕ} {a : WriteAnswer}
       → Checked s budget m (Done count Safe) m' → W T ≤ length k → RoomForClaim s T d → ClaimWritten s budget k d a k' d'
       → (bytes : ℕ) × (a ≡ Written count Safe bytes) × IsAccepted s T (take bytes d') count
-  safe-written {budget} {k = k} {d} {k'} {d'} c room fits w =
-      let (bytes, is) = done-is-written c room fits w in
-      (bytes, is, safe-accepted (subst (λ a. ClaimWritten s budget k d a k' d') is w))
+  safe_written {budget} {k = k} {d} {k'} {d'} c room fits w =
+      let (bytes, is) = done_is_written c room fits w in
+      (bytes, is, safe_accepted (subst (λ a. ClaimWritten s budget k d a k' d') is w))

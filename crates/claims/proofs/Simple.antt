@@ -15,7 +15,7 @@ use Rattle.model.specs.Rules.{Fact, G, P, Derives}
 use Rattle.model.specs.Memory.{FactCount}
 use Rattle.model.specs.Verdict.{Verdict}
 use Rattle.model.proofs.Decide.{decided}
-use Rattle.model.proofs.Decide.Least.{Exact, exact?, exact-count, exact-verdict}
+use Rattle.model.proofs.Decide.Least.{Exact, exact?, exact_count, exact_verdict}
 use Rattle.model.proofs.Decide.Errors.{verdict?}
 
 -- k numbers from i on
@@ -48,42 +48,42 @@ fifteen : List Fact
 unfolding flat_map range guarantees
 fifteen = flat_map guarantees (range 0 3)
 
-fortyTwo : List Fact
+forty_two : List Fact
 unfolding flat_map range places
-fortyTwo = flat_map places (range 0 3)
+forty_two = flat_map places (range 0 3)
 
-training-counts : (length fifteen ≡ 15) × (length fortyTwo ≡ 42)
-unfolding fifteen fortyTwo
-training-counts = (refl, refl)
+training_counts : (length fifteen ≡ 15) × (length forty_two ≡ 42)
+unfolding fifteen forty_two
+training_counts = (refl, refl)
 
-training-exact : Exact training 4 (fifteen ++ fortyTwo)
-unfolding training fifteen fortyTwo exact?
-training-exact = decided (exact? training 4 (fifteen ++ fortyTwo)) tt
+training_exact : Exact training 4 (fifteen ++ forty_two)
+unfolding training fifteen forty_two exact?
+training_exact = decided (exact? training 4 (fifteen ++ forty_two)) tt
 
-pub training-facts : FactCount training 57
-unfolding fifteen fortyTwo
-training-facts = exact-count training-exact
+pub training_facts : FactCount training 57
+unfolding fifteen forty_two
+training_facts = exact_count training_exact
 
-pub training-safe : Verdict training (Derives training) none
-unfolding training fifteen fortyTwo verdict?
-training-safe = exact-verdict training-exact (decided (verdict? training (omega arith) (fifteen ++ fortyTwo) none) tt)
+pub training_safe : Verdict training (Derives training) none
+unfolding training fifteen forty_two verdict?
+training_safe = exact_verdict training_exact (decided (verdict? training (omega arith) (fifteen ++ forty_two) none) tt)
 
 -- ---- the true/false mutex
 
 -- every place seems to be reached
-mutexFacts : List Fact
+mutex_facts : List Fact
 unfolding flat_map range at
-mutexFacts =
+mutex_facts =
     flat_map
     (λ t.
     G t 0 0 ∷ G t 0 1 ∷ G t 0 2 ∷ G t 1 0 ∷ G t 1 1 ∷ G t 1 3 ∷ G t 2 0 ∷ G t 2 2 ∷ G t 2 3 ∷ G t 3 1 ∷ G t 3 2 ∷ G t 3 3 ∷ [])
     (range 0 2)
     ++ flat_map (λ t. flat_map (λ g. at t g (range 0 7)) (range 0 4)) (range 0 2)
 
-mutex-exact : Exact mutex 5 mutexFacts
-unfolding mutex mutexFacts exact?
-mutex-exact = decided (exact? mutex 5 mutexFacts) tt
+mutex_exact : Exact mutex 5 mutex_facts
+unfolding mutex mutex_facts exact?
+mutex_exact = decided (exact? mutex 5 mutex_facts) tt
 
-pub mutex-possible : Verdict mutex (Derives mutex) (some (record { row = 0; shared = 0; locals = 0 ∷ 6 ∷ [] }))
-unfolding mutex mutexFacts verdict?
-mutex-possible = exact-verdict mutex-exact (decided (verdict? mutex (omega arith) mutexFacts (some _)) tt)
+pub mutex_possible : Verdict mutex (Derives mutex) (some (record { row = 0; shared = 0; locals = 0 ∷ 6 ∷ [] }))
+unfolding mutex mutex_facts verdict?
+mutex_possible = exact_verdict mutex_exact (decided (verdict? mutex (omega arith) mutex_facts (some _)) tt)

@@ -16,8 +16,8 @@ use Rattle.model.specs.Positions.{pos}
 use Rattle.model.specs.Memory.{FactCount}
 use Rattle.model.specs.Claims.{Claimed, Finding, Finds}
 use Rattle.check_call.specs.Answers.{plain, told}
-use Rattle.claim_reader.specs.ClaimFile.{claimAt}
-use Rattle.claim_check_call.specs.Answers.{claimReplyOf, answer_of}
+use Rattle.claim_reader.specs.ClaimFile.{claim_at}
+use Rattle.claim_check_call.specs.Answers.{claim_reply_of, answer_of}
 
 -- ---- what a case says
 
@@ -56,14 +56,14 @@ pub record ClaimedAs (positions : List ℕ) (number value : ℕ) (T : Table) (ps
   pub same : ps ≡ positions
   pub finding : Finding
   pub finds : Finds T (Claimed T ps) finding
-  pub answer : claimReplyOf (answer_of (length ps) finding) ≡ plain number value
+  pub answer : claim_reply_of (answer_of (length ps) finding) ≡ plain number value
 
 -- a case is as the document says, by what the definitions read the two files as ("The cases marked P are shown of the definitions by a single table
 -- and one statement", "How sharp the contracts are")
 abbrev pub Shown : Case → Type 0
 Shown (refused s number value) = RefusedAs number value (table_at s)
 Shown (checked s w count facts positions verdict) = ReadAs (CheckedAs w count facts positions verdict) (table_at s)
-Shown (claimed s c positions number value) = ReadAs (λ T. ReadAs (ClaimedAs positions number value T) (claimAt (W T) c)) (table_at s)
+Shown (claimed s c positions number value) = ReadAs (λ T. ReadAs (ClaimedAs positions number value T) (claim_at (W T) c)) (table_at s)
 
 -- ---- the cases
 

@@ -1,7 +1,7 @@
 -- What an answer means, whichever call gives it, and the number that tells it: document 01's table ("What comes back"), a line of it for each.
 --     Meaning                             the meanings, in the order of the table
 --     number_of                            the number of each
---     checkMeans, claimMeans, writeMeans  the meaning of each answer of the check, of the claim check and of claim writing
+--     check_means, claim_means, write_means  the meaning of each answer of the check, of the claim check and of claim writing
 use Rattle.std.specs.Prelude.{ℕ}
 use Rattle.numbers.specs.declared.refusals.Refusal.{Refusal}
 use Rattle.numbers.specs.declared.refusals.Refusal.TheVariants as refusal
@@ -18,14 +18,14 @@ pub data Meaning : Type 0 where
   long : Meaning
   version : Meaning
   outside : Meaning
-  not-above : Meaning
+  not_above : Meaning
   bytes_after : Meaning
   short : Meaning
   over : Meaning
-  lacks-start : Meaning
-  not-closed : Meaning
-  allows-error : Meaning
-  no-space : Meaning
+  lacks_start : Meaning
+  not_closed : Meaning
+  allows_error : Meaning
+  no_space : Meaning
 
 abbrev pub number_of : Meaning → ℕ
 number_of done = 0
@@ -33,42 +33,42 @@ number_of cut = 1
 number_of long = 2
 number_of version = 3
 number_of outside = 4
-number_of not-above = 5
+number_of not_above = 5
 number_of bytes_after = 6
 number_of short = 7
 number_of over = 8
-number_of lacks-start = 9
-number_of not-closed = 10
-number_of allows-error = 11
-number_of no-space = 12
+number_of lacks_start = 9
+number_of not_closed = 10
+number_of allows_error = 11
+number_of no_space = 12
 
 -- a refusal of a table's file, or of a claim's
-abbrev pub refusalMeans : Refusal → Meaning
-refusalMeans (refusal.Cut bytes) = cut
-refusalMeans (refusal.Long at) = long
-refusalMeans refusal.Version = version
-refusalMeans (refusal.Outside at) = outside
-refusalMeans (refusal.NotAbove at) = not-above
-refusalMeans (refusal.After at) = bytes_after
+abbrev pub refusal_means : Refusal → Meaning
+refusal_means (refusal.Cut bytes) = cut
+refusal_means (refusal.Long at) = long
+refusal_means refusal.Version = version
+refusal_means (refusal.Outside at) = outside
+refusal_means (refusal.NotAbove at) = not_above
+refusal_means (refusal.After at) = bytes_after
 
-abbrev pub checkMeans : Answer → Meaning
-checkMeans (check.Done count verdict) = done
-checkMeans (check.Refused r) = refusalMeans r
-checkMeans (check.Short w) = short
-checkMeans (check.Over budget) = over
+abbrev pub check_means : Answer → Meaning
+check_means (check.Done count verdict) = done
+check_means (check.Refused r) = refusal_means r
+check_means (check.Short w) = short
+check_means (check.Over budget) = over
 
-abbrev pub claimMeans : ClaimAnswer → Meaning
-claimMeans (claim.Accepted count) = done
-claimMeans (claim.TableRefused r) = refusalMeans r
-claimMeans (claim.Short w) = short
-claimMeans (claim.ClaimRefused r) = refusalMeans r
-claimMeans (claim.LacksStart thread) = lacks-start
-claimMeans (claim.NotClosed position) = not-closed
-claimMeans (claim.AllowsError row) = allows-error
+abbrev pub claim_means : ClaimAnswer → Meaning
+claim_means (claim.Accepted count) = done
+claim_means (claim.TableRefused r) = refusal_means r
+claim_means (claim.Short w) = short
+claim_means (claim.ClaimRefused r) = refusal_means r
+claim_means (claim.LacksStart thread) = lacks_start
+claim_means (claim.NotClosed position) = not_closed
+claim_means (claim.AllowsError row) = allows_error
 
-abbrev pub writeMeans : WriteAnswer → Meaning
-writeMeans (write.Written count verdict bytes) = done
-writeMeans (write.Refused r) = refusalMeans r
-writeMeans (write.Short w) = short
-writeMeans (write.Over budget) = over
-writeMeans (write.NoSpace needed) = no-space
+abbrev pub write_means : WriteAnswer → Meaning
+write_means (write.Written count verdict bytes) = done
+write_means (write.Refused r) = refusal_means r
+write_means (write.Short w) = short
+write_means (write.Over budget) = over
+write_means (write.NoSpace needed) = no_space

@@ -5,16 +5,16 @@
 --     RoomForClaim       demand 3, that there is room for the claim
 --     RunsSafely         demand 3, that no run of a file's table meets an error state
 use Rattle.std.specs.Prelude.{◌≡◌, List, [], ◌∷◌, ◌++◌, ℕ, suc, ◌+◌, ◌≤◌, ◌<◌, length, get_or}
-use Rattle.numbers.specs.Reading.{got, field_at, versionAt}
+use Rattle.numbers.specs.Reading.{got, field_at, version_at}
 use Rattle.cells.specs.declared.columns.Column.{Column}
 use Rattle.cells.specs.declared.columns.Column.TheVariants.{Within}
 use Rattle.cells.specs.declared.columns.Sizes.{Sizes}
-use Rattle.cells.specs.Columns.{stepColumns, pushColumns, popColumns, errorColumns}
+use Rattle.cells.specs.Columns.{step_columns, push_columns, pop_columns, error_columns}
 use Rattle.cells.specs.Rows.{row_at}
-use Rattle.lists.specs.Lists.{rows_at, listAt}
+use Rattle.lists.specs.Lists.{rows_at, list_at}
 use Rattle.files.specs.declared.header.Header.{Header}
-use Rattle.files.specs.Table.{Table, W, mostSteps, mostPushes, mostPops, mostErrors}
-use Rattle.files.specs.Header.{sizeColumns, placeColumns, localColumns, sizesOf, header_at}
+use Rattle.files.specs.Table.{Table, W, most_steps, most_pushes, most_pops, most_errors}
+use Rattle.files.specs.Header.{size_columns, place_columns, local_columns, sizes_of, header_at}
 use Rattle.files.specs.File.{table_at}
 use Rattle.model.specs.Runs.{State, Run}
 use Rattle.model.specs.Errors.{ErrorState}
@@ -37,27 +37,27 @@ pub record Changes (s m m' : List ℕ) (number : ℕ) : Type 0 where
   pub clears : 8 ≤ number → Clears s m m'
 
 -- the four lists in file order: how many rows each may have, and its columns
-abbrev pub mostRows : ℕ → ℕ
-mostRows i = get_or (mostSteps ∷ mostPushes ∷ mostPops ∷ mostErrors ∷ []) i 0
+abbrev pub most_rows : ℕ → ℕ
+most_rows i = get_or (most_steps ∷ most_pushes ∷ most_pops ∷ most_errors ∷ []) i 0
 
-abbrev pub columnsOf : ℕ → Sizes → List Column
-columnsOf i z = get_or (stepColumns z ∷ pushColumns z ∷ popColumns z ∷ errorColumns z ∷ []) i []
+abbrev pub columns_of : ℕ → Sizes → List Column
+columns_of i z = get_or (step_columns z ∷ push_columns z ∷ pop_columns z ∷ error_columns z ∷ []) i []
 
 -- list i of the file s is due at a place: the header and the lists before it were read
 pub data ListDue (s : List ℕ) : ℕ → Header → ℕ → Type 0 where
-  first-list : {h : Header} {a : ℕ} → header_at s ≡ got h a → ListDue s 0 h a
-  next-list : {i : ℕ} {h : Header} {a b : ℕ} {rs : List (List ℕ)} → ListDue s i h a → listAt (mostRows i) (columnsOf i h.sizes) s a ≡ got rs b
+  first_list : {h : Header} {a : ℕ} → header_at s ≡ got h a → ListDue s 0 h a
+  next_list : {i : ℕ} {h : Header} {a b : ℕ} {rs : List (List ℕ)} → ListDue s i h a → list_at (most_rows i) (columns_of i h.sizes) s a ≡ got rs b
       → ListDue s (suc i) h b
 
 -- a row of these columns is due at a place, all before it being sound: a part of the header, the count of a list, or a row of it
 pub data RowDue (s : List ℕ) : List Column → ℕ → Type 0 where
-  sizes : {v a : ℕ} → versionAt s ≡ got v a → RowDue s sizeColumns a
-  places : {v a b : ℕ} {z : List ℕ} → versionAt s ≡ got v a → row_at sizeColumns s a ≡ got z b → RowDue s (placeColumns (sizesOf z)) b
-  locals : {v a b c : ℕ} {z q : List ℕ} → versionAt s ≡ got v a → row_at sizeColumns s a ≡ got z b → row_at (placeColumns (sizesOf z)) s b ≡ got q c
-      → RowDue s (localColumns (sizesOf z)) c
-  list_count : {i : ℕ} {h : Header} {a : ℕ} → ListDue s i h a → i < 4 → RowDue s (Within 0 (mostRows i) ∷ []) a
-  list-row : {i : ℕ} {h : Header} {a k b j p : ℕ} {rs : List (List ℕ)} → ListDue s i h a → i < 4 → field_at s a 0 (mostRows i + 1) ≡ got k b
-      → rows_at j [] (columnsOf i h.sizes) s b ≡ got rs p → j < k → RowDue s (columnsOf i h.sizes) p
+  sizes : {v a : ℕ} → version_at s ≡ got v a → RowDue s size_columns a
+  places : {v a b : ℕ} {z : List ℕ} → version_at s ≡ got v a → row_at size_columns s a ≡ got z b → RowDue s (place_columns (sizes_of z)) b
+  locals : {v a b c : ℕ} {z q : List ℕ} → version_at s ≡ got v a → row_at size_columns s a ≡ got z b → row_at (place_columns (sizes_of z)) s b ≡ got q c
+      → RowDue s (local_columns (sizes_of z)) c
+  list_count : {i : ℕ} {h : Header} {a : ℕ} → ListDue s i h a → i < 4 → RowDue s (Within 0 (most_rows i) ∷ []) a
+  list_row : {i : ℕ} {h : Header} {a k b j p : ℕ} {rs : List (List ℕ)} → ListDue s i h a → i < 4 → field_at s a 0 (most_rows i + 1) ≡ got k b
+      → rows_at j [] (columns_of i h.sizes) s b ≡ got rs p → j < k → RowDue s (columns_of i h.sizes) p
 
 -- ---- demands 2 and 3
 

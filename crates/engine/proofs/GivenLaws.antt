@@ -12,11 +12,11 @@ use Rattle.engine.specs.Given.{RowsOf, StartOf}
 use Rattle.engine.specs.InRange.{Given, StartIn}
 
 module _ {T : Table} {s : Plan} (sound : Sound T) (plan : s ≡ plan_of T) where
-  pub plan-given : Planned s
-  plan-given = subst Planned (sym plan) (planned T sound)
+  pub plan_given : Planned s
+  plan_given = subst Planned (sym plan) (planned T sound)
 
-  pub start-given : {g₀ : ℕ} {locals : List ℕ} → StartOf T g₀ locals → StartIn s g₀ locals
-  start-given {g₀} {locals} first =
+  pub start_given : {g₀ : ℕ} {locals : List ℕ} → StartOf T g₀ locals → StartIn s g₀ locals
+  start_given {g₀} {locals} first =
       subst (λ (s : Plan). StartIn s g₀ locals) (sym plan)
       (record {
         long = first.long;
@@ -25,8 +25,8 @@ module _ {T : Table} {s : Plan} (sound : Sound T) (plan : s ≡ plan_of T) where
       })
 
 module _ {T : Table} {s : Plan} {n : RowCounts} {st pu po : List ℕ} (rows : RowsOf T s n st pu po) where
-  pub rows-given : Given s n st pu po
-  rows-given =
+  pub rows_given : Given s n st pu po
+  rows_given =
       subst (λ (s : Plan). Given s n st pu po) (sym rows.plan)
       (record {
         plan = planned T rows.sound;

@@ -8,8 +8,8 @@ use Rattle.store.specs.Marking.{SomeIn}
 use Rattle.engine.specs.Turns.{NoneBetween}
 
 -- a loop over stretches that ends has gone over them all
-pub stretches-end : {stretch last : ℕ} → stretch ≤ last → last ≤ stretch → stretch ≡ last
-stretches-end le ge = omega arith
+pub stretches_end : {stretch last : ℕ} → stretch ≤ last → last ≤ stretch → stretch ≡ last
+stretches_end le ge = omega arith
 
 pub none_more : (p k : ℕ) (m : List ℕ) {i stretch : ℕ} → NoneBetween p k m i stretch → ¬ SomeIn m (p + stretch * k) k
     → NoneBetween p k m i (stretch + 1)

@@ -15,7 +15,7 @@ use Rattle.store.specs.declared.rows.RowCounts.{RowCounts}
 use Rattle.store.specs.Marking.{room, Clear}
 use Rattle.positions.specs.Plans.{plan_of}
 use Rattle.store.specs.Reading.{Reads}
-use Rattle.positions.proofs.PlanIsModel.{w-is}
+use Rattle.positions.proofs.PlanIsModel.{w_is}
 use Rattle.uses.specs.declared.lines.Pass.{Pass}
 use Rattle.uses.specs.Uses.{Lacks}
 use Rattle.uses.specs.AllUses.{AllUses}
@@ -24,9 +24,9 @@ use Rattle.engine.specs.Working.{Settled, Worked, looked, settled}
 use Rattle.engine.specs.Given.{RowsOf, StartOf}
 use Rattle.engine.specs.Starting.{begun}
 use Rattle.engine.specs.Answers.{Confirmed, lacking, whole}
-use Rattle.uses.proofs.UsesAreYields.{lacks-missing, missing-lacks}
-use Rattle.engine.proofs.Derivable.{Derivable, exceeds, derivable-grew, starts-grew, held, counted}
-use Rattle.engine.proofs.StartLaws.{begun-clear}
+use Rattle.uses.proofs.UsesAreYields.{lacks_missing, missing_lacks}
+use Rattle.engine.proofs.Derivable.{Derivable, exceeds, derivable_grew, starts_grew, held, counted}
+use Rattle.engine.proofs.StartLaws.{begun_clear}
 
 -- ---- a run
 
@@ -40,63 +40,63 @@ module _ {T : Table} {s : Plan} {n : RowCounts} {st pu po : List ℕ} (rows : Ro
   started : Started T s.n B
   started =
       subst (Started T s.n) (sym start)
-      (subst (λ (s : Plan). room Z ≡ s.w → Started T s.n (begun s g₀ locals s.n Z)) (sym rows.plan) by-plan long)
+      (subst (λ (s : Plan). room Z ≡ s.w → Started T s.n (begun s g₀ locals s.n Z)) (sym rows.plan) by_plan long)
     where
-      by-plan : room Z ≡ (plan_of T).w → Started T T.n (begun (plan_of T) g₀ locals T.n Z)
-      by-plan l =
-          let b = begun-clear rows.sound first Z (omega (arith, w-is T)) clear T.n (omega arith) in
+      by_plan : room Z ≡ (plan_of T).w → Started T T.n (begun (plan_of T) g₀ locals T.n Z)
+      by_plan l =
+          let b = begun_clear rows.sound first Z (omega (arith, w_is T)) clear T.n (omega arith) in
           record { derivable = b.derivable; starts = b.starts }
 
   -- more start facts than the budget
-  pub over-at-start : {budget : ℕ} → budget < s.n → Exceeds T budget
-  over-at-start l = exceeds started.derivable l
+  pub over_at_start : {budget : ℕ} → budget < s.n → Exceeds T budget
+  over_at_start l = exceeds started.derivable l
 
   module _ {b r : Pass} {M : List ℕ} (settled : Settled (AllUses s n st pu po) b r B M) where
-    by-plan : Settled (AllUses (plan_of T) n st pu po) b r B M
-    by-plan = subst (λ (s : Plan). Settled (AllUses s n st pu po) b r B M) rows.plan settled
+    by_plan : Settled (AllUses (plan_of T) n st pu po) b r B M
+    by_plan = subst (λ (s : Plan). Settled (AllUses s n st pu po) b r B M) rows.plan settled
 
-    derivable : Derivable T (s.n + by-plan.puts.count) M
-    derivable = derivable-grew rows.sound rows.reads started.derivable by-plan.puts.grew
+    derivable : Derivable T (s.n + by_plan.puts.count) M
+    derivable = derivable_grew rows.sound rows.reads started.derivable by_plan.puts.grew
 
     -- none is left
-    pub over-when-spent : {budget : ℕ} → s.n + b.left ≡ suc budget → r.left ≡ 0 → Exceeds T budget
-    over-when-spent e z = exceeds derivable (omega (arith, by-plan.puts.left))
+    pub over_when_spent : {budget : ℕ} → s.n + b.left ≡ suc budget → r.left ≡ 0 → Exceeds T budget
+    over_when_spent e z = exceeds derivable (omega (arith, by_plan.puts.left))
 
     -- some are left
-    pub done-when-settled : {budget c : ℕ} → s.n + b.left ≡ suc budget → c + r.left ≡ suc budget → 0 < r.left
+    pub done_when_settled : {budget c : ℕ} → s.n + b.left ≡ suc budget → c + r.left ≡ suc budget → 0 < r.left
         → Relations T M × FactCount T c × (c ≤ budget)
-    done-when-settled {c = c} e f h =
-        let starts = starts-grew rows.sound rows.reads started.starts by-plan.puts.grew in
-        let count : s.n + by-plan.puts.count ≡ c = omega (arith, by-plan.puts.left) in (
-          held rows.sound rows.reads derivable (by-plan.closed h) starts,
-          subst (FactCount T) count (counted rows.sound rows.reads derivable (by-plan.closed h) starts),
+    done_when_settled {c = c} e f h =
+        let starts = starts_grew rows.sound rows.reads started.starts by_plan.puts.grew in
+        let count : s.n + by_plan.puts.count ≡ c = omega (arith, by_plan.puts.left) in (
+          held rows.sound rows.reads derivable (by_plan.closed h) starts,
+          subst (FactCount T) count (counted rows.sound rows.reads derivable (by_plan.closed h) starts),
           omega arith,
         )
 
 -- ---- work that puts, and work that looks
 
-pub worked-settled : {A : ℕ → ℕ → ℕ → Type 0} {b r : Pass} {m m' : List ℕ} → Worked A true b r m m' → Settled A b r m m'
-worked-settled (settled s) = s
+pub worked_settled : {A : ℕ → ℕ → ℕ → Type 0} {b r : Pass} {m m' : List ℕ} → Worked A true b r m m' → Settled A b r m m'
+worked_settled (settled s) = s
 
-pub worked-looked : {A : ℕ → ℕ → ℕ → Type 0} {b r : Pass} {m m' : List ℕ} → Worked A false b r m m' → Looked A b r m × (m' ≡ m)
-worked-looked (looked k) = (k, refl)
+pub worked_looked : {A : ℕ → ℕ → ℕ → Type 0} {b r : Pass} {m m' : List ℕ} → Worked A false b r m m' → Looked A b r m × (m' ≡ m)
+worked_looked (looked k) = (k, refl)
 
 -- a pass that looks finds the smallest missing position
-looked-confirmed : {T : Table} → Sound T → {n : RowCounts} {st pu po : List ℕ} → Reads T n st pu po → (m : List ℕ) {b r : Pass} → b.best ≡ W T
+looked_confirmed : {T : Table} → Sound T → {n : RowCounts} {st pu po : List ℕ} → Reads T n st pu po → (m : List ℕ) {b r : Pass} → b.best ≡ W T
     → 0 < b.left → Looked (AllUses (plan_of T) n st pu po) b r m → Confirmed T m r.best
-looked-confirmed {T} sound {n} {st} {pu} {po} reads m {b} {r} e h k = go k.first
+looked_confirmed {T} sound {n} {st} {pu} {po} reads m {b} {r} e h k = go k.first
   where
     least : (y : ℕ) → Missing T (Marked T m) y → r.best ≤ y
-    least y s = k.least h y (missing-lacks sound reads m y s)
+    least y s = k.least h y (missing_lacks sound reads m y s)
 
     go : (r.best ≡ b.best) ⊎ Lacks (AllUses (plan_of T) n st pu po) m r.best → Confirmed T m r.best
     go (inl i) = whole (i ∙ e) (λ y s. absurd (omega (arith, s.below, least y s)))
-    go (inr l) = lacking (record { here = lacks-missing sound reads m r.best l; none = λ y lt s. absurd (omega (arith, least y s)) })
+    go (inr l) = lacking (record { here = lacks_missing sound reads m r.best l; none = λ y lt s. absurd (omega (arith, least y s)) })
 
 pub confirmed : {T : Table} {s : Plan} {n : RowCounts} {st pu po : List ℕ} → RowsOf T s n st pu po → (m : List ℕ) {b r : Pass} → b.best ≡ s.w
     → 0 < b.left → Looked (AllUses s n st pu po) b r m → Confirmed T m r.best
 confirmed {T} {s} {n} {st} {pu} {po} rows m {b} {r} e h k =
-    looked-confirmed rows.sound rows.reads m (e ∙ w) h (subst (λ (s : Plan). Looked (AllUses s n st pu po) b r m) rows.plan k)
+    looked_confirmed rows.sound rows.reads m (e ∙ w) h (subst (λ (s : Plan). Looked (AllUses s n st pu po) b r m) rows.plan k)
   where
     w : s.w ≡ W T
-    w = subst (λ (s : Plan). s.w ≡ W T) (sym rows.plan) (w-is T)
+    w = subst (λ (s : Plan). s.w ≡ W T) (sym rows.plan) (w_is T)

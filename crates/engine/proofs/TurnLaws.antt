@@ -17,31 +17,31 @@ use Rattle.uses.specs.Uses.{Uses, Either, Under, Upto}
 use Rattle.uses.specs.Passing.{Swept}
 use Rattle.uses.specs.AllUses.{PStretch, AllQUses, AllUses}
 use Rattle.engine.specs.Working.{Worked}
-use Rattle.engine.specs.Turns.{stretchCount, NextStretch, Covered, Behind, Turning, StretchesDone, Goes}
-use Rattle.uses.proofs.PassLaws.{swept-idle}
-use Rattle.engine.proofs.EmptyStretches.{p-stretch-some}
-use Rattle.uses.proofs.StretchNumbers.{stretches-pos}
+use Rattle.engine.specs.Turns.{stretch_count, NextStretch, Covered, Behind, Turning, StretchesDone, Goes}
+use Rattle.uses.proofs.PassLaws.{swept_idle}
+use Rattle.engine.proofs.EmptyStretches.{p_stretch_some}
+use Rattle.uses.proofs.StretchNumbers.{stretches_pos}
 use Rattle.engine.proofs.Covering.{
-  swept-fewer,
-  covered-fewer,
+  swept_fewer,
+  covered_fewer,
   covered_none,
-  covered-then,
+  covered_then,
   covered_same,
-  covered-spent,
-  covered-put,
-  covered-new,
-  covered-all,
+  covered_spent,
+  covered_put,
+  covered_new,
+  covered_all,
 }
 
 -- ---- the number that falls, for R stretches: x is what is left and what was left before, r is the stretch
 
 -- x falls
-fewer-left : (R x y r r' : ℕ) → x < y → x * (R + 1) + (R - r') < y * (R + 1) + (R - r)
-fewer-left R x y r r' l = omega (arith, mul-le-mul_right (R + 1) l)
+fewer_left : (R x y r r' : ℕ) → x < y → x * (R + 1) + (R - r') < y * (R + 1) + (R - r)
+fewer_left R x y r r' l = omega (arith, mul-le-mul_right (R + 1) l)
 
 -- x does not rise, and the stretch comes nearer to the last
-fewer-stretches : (R x y r r' : ℕ) → x ≤ y → r < r' → r' ≤ R → x * (R + 1) + (R - r') < y * (R + 1) + (R - r)
-fewer-stretches R x y r r' l h e = omega (arith, mul-le-mul_right (R + 1) l)
+fewer_stretches : (R x y r r' : ℕ) → x ≤ y → r < r' → r' ≤ R → x * (R + 1) + (R - r') < y * (R + 1) + (R - r)
+fewer_stretches R x y r r' l h e = omega (arith, mul-le-mul_right (R + 1) l)
 
 module _ (s : Plan) (n : RowCounts) (st pu po : List ℕ) where
   abbrev All : Uses
@@ -55,79 +55,79 @@ module _ (s : Plan) (n : RowCounts) (st pu po : List ℕ) where
 
   -- ---- what is behind a turn
 
-  stretch-all : (stretch : ℕ) → stretch < stretchCount s → (q x y : ℕ) → PStretch s n st pu stretch q x y → All q x y
-  stretch-all stretch l q x y u = inl (record { k = stretch; lt = l; given = u })
+  stretch_all : (stretch : ℕ) → stretch < stretch_count s → (q x y : ℕ) → PStretch s n st pu stretch q x y → All q x y
+  stretch_all stretch l q x y u = inl (record { k = stretch; lt = l; given = u })
 
-  none-behind : Planned s → (q x y : ℕ) → ¬ B 0 q x y
-  none-behind plan q x y (inl u) = not-suc-le-zero u.lt
-  none-behind plan q x y (inr u) = absurd (omega (arith, u.0, stretches-pos plan))
+  none_behind : Planned s → (q x y : ℕ) → ¬ B 0 q x y
+  none_behind plan q x y (inl u) = not-suc-le-zero u.lt
+  none_behind plan q x y (inr u) = absurd (omega (arith, u.0, stretches_pos plan))
 
   -- before the last stretch: the stretches alone
-  behind-stretches : (stretch : ℕ) → stretch < stretchCount s → (q x y : ℕ) → B stretch q x y → Stretches stretch q x y
-  behind-stretches stretch l q x y (inl u) = u
-  behind-stretches stretch l q x y (inr u) = absurd (omega (arith, u.0))
+  behind_stretches : (stretch : ℕ) → stretch < stretch_count s → (q x y : ℕ) → B stretch q x y → Stretches stretch q x y
+  behind_stretches stretch l q x y (inl u) = u
+  behind_stretches stretch l q x y (inr u) = absurd (omega (arith, u.0))
 
   -- after it: every use
-  behind-all : (q x y : ℕ) → B (stretchCount s) q x y → All q x y
-  behind-all q x y (inl u) = inl u
-  behind-all q x y (inr u) = inr u.1
+  behind_all : (q x y : ℕ) → B (stretch_count s) q x y → All q x y
+  behind_all q x y (inl u) = inl u
+  behind_all q x y (inr u) = inr u.1
 
-  all-behind : (q x y : ℕ) → All q x y → B (stretchCount s) q x y
-  all-behind q x y (inl u) = inl u
-  all-behind q x y (inr u) = inr (refl, u)
+  all_behind : (q x y : ℕ) → All q x y → B (stretch_count s) q x y
+  all_behind q x y (inl u) = inl u
+  all_behind q x y (inr u) = inr (refl, u)
 
   -- ---- the first turn and the last
 
-  pub first-turning : Planned s → (put : Bool) (b : Pass) (m : List ℕ)
+  pub first_turning : Planned s → (put : Bool) (b : Pass) (m : List ℕ)
       → Turning s n st pu po put b (record { stretch = 0; before = b.left; pass = b }) m m
-  first-turning plan put b m =
-      record { covered = covered_none put (none-behind plan); within = omega arith; last = λ e. absurd (omega (arith, e, stretches-pos plan)) }
+  first_turning plan put b m =
+      record { covered = covered_none put (none_behind plan); within = omega arith; last = λ e. absurd (omega (arith, e, stretches_pos plan)) }
 
-  pub last-turning : {put : Bool} {b : Pass} {turn : Turn} {m₀ m : List ℕ} → stretchCount s ≤ turn.stretch
+  pub last_turning : {put : Bool} {b : Pass} {turn : Turn} {m₀ m : List ℕ} → stretch_count s ≤ turn.stretch
       → Turning s n st pu po put b turn m₀ m → Worked All put b turn.pass m₀ m
-  last-turning {put} {b} {turn} {m₀} {m} l t =
-      let e : turn.stretch ≡ stretchCount s = omega (arith, t.within) in
-      covered-all (t.last e)
-      (covered_same behind-all all-behind
+  last_turning {put} {b} {turn} {m₀} {m} l t =
+      let e : turn.stretch ≡ stretch_count s = omega (arith, t.within) in
+      covered_all (t.last e)
+      (covered_same behind_all all_behind
       (subst (λ (r : ℕ). Covered All (B r) put b turn.before turn.pass m₀ m) e t.covered))
 
   -- ---- what follows on a turn: p is what is carried after rules 4, 5 and 2 on its stretch
 
   module _ {put : Bool} {b : Pass} {turn : Turn} {m₀ m : List ℕ} (t : Turning s n st pu po put b turn m₀ m)
-      (in-stretches : turn.stretch < stretchCount s) {p : Pass} {m' : List ℕ}
+      (in-stretches : turn.stretch < stretch_count s) {p : Pass} {m' : List ℕ}
       (swept : Swept (PStretch s n st pu turn.stretch) put turn.pass p m m') where
     -- its stretch was gone over too
-    with-stretch : Covered All (Either (B turn.stretch) (PStretch s n st pu turn.stretch)) put b turn.before p m₀ m'
-    with-stretch = covered-then (stretch-all turn.stretch in-stretches) t.covered swept
+    with_stretch : Covered All (Either (B turn.stretch) (PStretch s n st pu turn.stretch)) put b turn.before p m₀ m'
+    with_stretch = covered_then (stretch_all turn.stretch in-stretches) t.covered swept
 
-    pub goes_spent : p.left ≡ 0 → Goes s n st pu po put b turn (record { stretch = stretchCount s; before = p.left; pass = p }) m₀ m'
+    pub goes_spent : p.left ≡ 0 → Goes s n st pu po put b turn (record { stretch = stretch_count s; before = p.left; pass = p }) m₀ m'
     goes_spent z =
         record {
-          turning = record { covered = covered-spent to z with-stretch; within = omega arith; last = λ e. refl };
-          fewer = fewer-stretches (stretchCount s) _ _ turn.stretch (stretchCount s) (omega (arith, swept-fewer swept)) in-stretches (omega arith);
+          turning = record { covered = covered_spent to z with_stretch; within = omega arith; last = λ e. refl };
+          fewer = fewer_stretches (stretch_count s) _ _ turn.stretch (stretch_count s) (omega (arith, swept_fewer swept)) in-stretches (omega arith);
         }
       where
-        to : (q x y : ℕ) → Either (B turn.stretch) (PStretch s n st pu turn.stretch) q x y → B (stretchCount s) q x y
+        to : (q x y : ℕ) → Either (B turn.stretch) (PStretch s n st pu turn.stretch) q x y → B (stretch_count s) q x y
         to q x y (inl (inl u)) = inl (record { k = u.k; lt = omega (arith, u.lt); given = u.given })
         to q x y (inl (inr u)) = inr (refl, u.1)
         to q x y (inr u) = inl (record { k = turn.stretch; lt = in-stretches; given = u })
 
-    pub goes-again : ¬ (p.left ≡ turn.pass.left)
+    pub goes_again : ¬ (p.left ≡ turn.pass.left)
         → Goes s n st pu po put b turn (record { stretch = turn.stretch; before = turn.before; pass = p }) m₀ m'
-    goes-again gave =
+    goes_again gave =
         record {
           turning =
               record {
-                covered = covered-put (λ e. gave (omega (arith, swept-fewer swept, covered-fewer t.covered))) with-stretch;
+                covered = covered_put (λ e. gave (omega (arith, swept_fewer swept, covered_fewer t.covered))) with_stretch;
                 within = t.within;
                 last = λ e. absurd (omega (arith, e));
               };
-          fewer = fewer-left (stretchCount s) _ _ turn.stretch turn.stretch (fewer (dec_lt p.left turn.pass.left));
+          fewer = fewer_left (stretch_count s) _ _ turn.stretch turn.stretch (fewer (dec_lt p.left turn.pass.left));
         }
       where
         fewer : Dec (p.left < turn.pass.left) → p.left + turn.before < turn.pass.left + turn.before
         fewer (yes l) = omega arith
-        fewer (no l) = absurd (gave (omega (arith, swept-fewer swept)))
+        fewer (no l) = absurd (gave (omega (arith, swept_fewer swept)))
 
     module _ (given : Given s n st pu po) {next : ℕ} (found : NextStretch s m' (turn.stretch + 1) next) where
       -- the stretches between this one and the next have no mark
@@ -136,21 +136,21 @@ module _ (s : Plan) (n : RowCounts) (st pu po : List ℕ) where
 
       skipped : Swept Between put p p m' m'
       skipped =
-          swept-idle put λ y l.
+          swept_idle put λ y l.
           let u = l.given in
           found.none u.k (omega (arith, u.given.0)) u.lt
-          (p-stretch-some m' given (omega (arith, u.lt, found.upto)) u.given.1 l.has-q l.has-x)
+          (p_stretch_some m' given (omega (arith, u.lt, found.upto)) u.given.1 l.has_q l.has_x)
 
       -- all stretches before the next were gone over
-      stretches-before : Covered All (Stretches next) put b turn.before p m₀ m'
-      stretches-before = covered_same to fro (covered-then part with-stretch skipped)
+      stretches_before : Covered All (Stretches next) put b turn.before p m₀ m'
+      stretches_before = covered_same to fro (covered_then part with_stretch skipped)
         where
           part : (q x y : ℕ) → Between q x y → All q x y
-          part q x y u = stretch-all u.k (omega (arith, u.lt, found.upto)) q x y u.given.1
+          part q x y u = stretch_all u.k (omega (arith, u.lt, found.upto)) q x y u.given.1
 
           to : (q x y : ℕ) → Either (Either (B turn.stretch) (PStretch s n st pu turn.stretch)) Between q x y → Stretches next q x y
           to q x y (inl (inl u)) =
-              let v = behind-stretches turn.stretch in-stretches q x y u in
+              let v = behind_stretches turn.stretch in-stretches q x y u in
               record { k = v.k; lt = omega (arith, v.lt, found.from); given = v.given }
           to q x y (inl (inr u)) = record { k = turn.stretch; lt = omega (arith, found.from); given = u }
           to q x y (inr u) = record { k = u.k; lt = u.lt; given = u.given.1 }
@@ -165,74 +165,74 @@ module _ (s : Plan) (n : RowCounts) (st pu po : List ℕ) where
               go (no l) (no h) =
                   let e : u.k ≡ turn.stretch = omega arith in inl (inr (subst (λ (k : ℕ). PStretch s n st pu k q x y) e u.given))
 
-      pub goes-next : p.left ≡ turn.pass.left → next < stretchCount s
+      pub goes_next : p.left ≡ turn.pass.left → next < stretch_count s
           → Goes s n st pu po put b turn (record { stretch = next; before = turn.before; pass = p }) m₀ m'
-      goes-next e l =
+      goes_next e l =
           record {
             turning =
                 record {
-                  covered = covered_same (λ q x y. inl) (behind-stretches next l) stretches-before;
+                  covered = covered_same (λ q x y. inl) (behind_stretches next l) stretches_before;
                   within = omega arith;
                   last = λ e. absurd (omega (arith, e));
                 };
-            fewer = fewer-stretches (stretchCount s) _ _ turn.stretch next (omega arith) (omega (arith, found.from)) found.upto;
+            fewer = fewer_stretches (stretch_count s) _ _ turn.stretch next (omega arith) (omega (arith, found.from)) found.upto;
           }
 
-      pub stretches-done : stretchCount s ≤ next → StretchesDone s n st pu po put b turn p m₀ m'
-      stretches-done l =
+      pub stretches_done : stretch_count s ≤ next → StretchesDone s n st pu po put b turn p m₀ m'
+      stretches_done l =
           record {
             covered =
-                subst (λ (r : ℕ). Covered All (Stretches r) put b turn.before p m₀ m') (omega (arith, found.upto)) stretches-before;
+                subst (λ (r : ℕ). Covered All (Stretches r) put b turn.before p m₀ m') (omega (arith, found.upto)) stretches_before;
             stretch = in-stretches;
-            fewer = swept-fewer swept;
+            fewer = swept_fewer swept;
           }
 
   -- ---- the end of a round
 
   -- something was put, and the next round begins
-  pub begins-anew : Planned s → {D : Uses} {put : Bool} {b : Pass} {turn : Turn} {p : Pass} {m₀ m : List ℕ}
+  pub begins_anew : Planned s → {D : Uses} {put : Bool} {b : Pass} {turn : Turn} {p : Pass} {m₀ m : List ℕ}
       → Covered All D put b turn.before p m₀ m → p.left ≤ turn.pass.left → ¬ (p.left ≡ turn.before)
       → Goes s n st pu po put b turn (record { stretch = 0; before = p.left; pass = p }) m₀ m
-  begins-anew plan {turn = turn} {p = p} c le gave =
+  begins_anew plan {turn = turn} {p = p} c le gave =
       record {
         turning =
             record {
-              covered = covered-new gave (none-behind plan) c;
+              covered = covered_new gave (none_behind plan) c;
               within = omega arith;
-              last = λ e. absurd (omega (arith, e, stretches-pos plan));
+              last = λ e. absurd (omega (arith, e, stretches_pos plan));
             };
-        fewer = fewer-left (stretchCount s) _ _ turn.stretch 0 (fewer (dec_lt p.left turn.before));
+        fewer = fewer_left (stretch_count s) _ _ turn.stretch 0 (fewer (dec_lt p.left turn.before));
       }
     where
       fewer : Dec (p.left < turn.before) → p.left + p.left < turn.pass.left + turn.before
       fewer (yes l) = omega arith
-      fewer (no l) = absurd (gave (omega (arith, covered-fewer c)))
+      fewer (no l) = absurd (gave (omega (arith, covered_fewer c)))
 
   -- p is what is carried after the last stretch, and r after the Q facts
   module _ {put : Bool} {b : Pass} {turn : Turn} {p : Pass} {m₀ m : List ℕ}
       (done : StretchesDone s n st pu po put b turn p m₀ m) {r : Pass} {m' : List ℕ} (swept : Swept (AllQUses s n po) put p r m m') where
     -- every use was gone over
-    pub all-covered : Covered All All put b turn.before r m₀ m'
-    all-covered = covered-then (λ q x y. inr) done.covered swept
+    pub all_covered : Covered All All put b turn.before r m₀ m'
+    all_covered = covered_then (λ q x y. inr) done.covered swept
 
-    pub all-fewer : r.left ≤ turn.pass.left
-    all-fewer = omega (arith, swept-fewer swept, done.fewer)
+    pub all_fewer : r.left ≤ turn.pass.left
+    all_fewer = omega (arith, swept_fewer swept, done.fewer)
 
-    ends : Covered All (B (stretchCount s)) put b r.left r m₀ m'
-        → Goes s n st pu po put b turn (record { stretch = stretchCount s; before = r.left; pass = r }) m₀ m'
+    ends : Covered All (B (stretch_count s)) put b r.left r m₀ m'
+        → Goes s n st pu po put b turn (record { stretch = stretch_count s; before = r.left; pass = r }) m₀ m'
     ends c =
         record {
           turning = record { covered = c; within = omega arith; last = λ e. refl };
           fewer =
-              fewer-stretches (stretchCount s) _ _ turn.stretch (stretchCount s) (omega (arith, all-fewer, covered-fewer all-covered))
+              fewer_stretches (stretch_count s) _ _ turn.stretch (stretch_count s) (omega (arith, all_fewer, covered_fewer all_covered))
               done.stretch (omega arith);
         }
 
-    pub ends-settled : r.left ≡ turn.before → Goes s n st pu po put b turn (record { stretch = stretchCount s; before = r.left; pass = r }) m₀ m'
-    ends-settled e =
+    pub ends_settled : r.left ≡ turn.before → Goes s n st pu po put b turn (record { stretch = stretch_count s; before = r.left; pass = r }) m₀ m'
+    ends_settled e =
         ends
-        (subst (λ (z : ℕ). Covered All (B (stretchCount s)) put b z r m₀ m') (sym e)
-        (covered_same all-behind behind-all all-covered))
+        (subst (λ (z : ℕ). Covered All (B (stretch_count s)) put b z r m₀ m') (sym e)
+        (covered_same all_behind behind_all all_covered))
 
-    pub ends-spent : r.left ≡ 0 → Goes s n st pu po put b turn (record { stretch = stretchCount s; before = r.left; pass = r }) m₀ m'
-    ends-spent z = ends (covered-spent all-behind z all-covered)
+    pub ends_spent : r.left ≡ 0 → Goes s n st pu po put b turn (record { stretch = stretch_count s; before = r.left; pass = r }) m₀ m'
+    ends_spent z = ends (covered_spent all_behind z all_covered)

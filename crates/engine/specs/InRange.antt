@@ -1,6 +1,6 @@
 -- What is given is in range. Of a sound table it is so, and the engine's own functions ask for no more.
 use Rattle.std.specs.Prelude.{List, ℕ, ◌<◌, ◌≤◌, get_or, length}
-use Rattle.files.specs.Table.{mostSteps}
+use Rattle.files.specs.Table.{most_steps}
 use Rattle.positions.specs.declared.plan.Plan.{Plan}
 use Rattle.store.specs.declared.rows.RowCounts.{RowCounts}
 use Rattle.positions.specs.Plans.{Planned}
@@ -9,7 +9,7 @@ use Rattle.uses.specs.Ranges.{RowsIn}
 -- a step row ends in g', l'; a push row in l', f; a pop row in f, l'
 pub record Given (s : Plan) (n : RowCounts) (st pu po : List ℕ) : Type 0 where
   pub plan : Planned s
-  pub few : n.steps ≤ mostSteps
+  pub few : n.steps ≤ most_steps
   pub steps : RowsIn s s.g s.l st n.steps
   pub pushes : RowsIn s s.l s.f pu n.pushes
   pub pops : RowsIn s s.f s.l po n.pops

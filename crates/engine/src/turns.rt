@@ -9,7 +9,7 @@ ghost use Rattle.uses.specs.Ranges.{RowsIn};
 ghost use Rattle.engine.specs.InRange.{Given};
 ghost use Rattle.uses.specs.Passing.{Swept};
 ghost use Rattle.uses.specs.AllUses.{RestUses};
-ghost use Rattle.engine.specs.Turns.{stretchCount, NextStretch, StretchesDone, Turning, Stepped, Goes};
+ghost use Rattle.engine.specs.Turns.{stretch_count, NextStretch, StretchesDone, Turning, Stepped, Goes};
 
 use crate::q_facts::q_facts;
 use passes::guarantees::guarantees;
@@ -44,14 +44,14 @@ pub fn first_turn(pass: Pass) -> Turn
 // Whether the work goes on. It ends with a turn past the last stretch.
 pub fn goes_on(s: Plan, turn: Turn) -> bool
     requires { Planned s }
-    ensures { result ≡ ltb turn.stretch (stretchCount s) }
+    ensures { result ≡ ltb turn.stretch (stretch_count s) }
 {
     turn.stretch < s.n * s.k
 }
 
 // The thread of the turn's stretch.
 pub fn thread_of(s: Plan, turn: Turn) -> usize
-    requires { Planned s × (turn.stretch < stretchCount s) }
+    requires { Planned s × (turn.stretch < stretch_count s) }
     ensures { (result ≡ turn.stretch / s.k) × (result < s.n) }
 {
     turn.stretch / s.k
@@ -59,7 +59,7 @@ pub fn thread_of(s: Plan, turn: Turn) -> usize
 
 // The pair from which the facts of the turn's stretch lead.
 pub fn pair_from(s: Plan, turn: Turn) -> usize
-    requires { Planned s × (turn.stretch < stretchCount s) }
+    requires { Planned s × (turn.stretch < stretch_count s) }
     ensures { (result ≡ turn.stretch % s.k) × (result < s.k) }
 {
     turn.stretch % s.k
@@ -74,7 +74,7 @@ pub fn pass_of(turn: Turn) -> Pass
 
 // The next stretch of P facts from i on that has a mark, or how many stretches there are.
 fn next_stretch(s: Plan, mem: &[u8], i: usize) -> usize
-    requires { Planned s × (i ≤ stretchCount s) × (s.w ≤ room mem.now) }
+    requires { Planned s × (i ≤ stretch_count s) × (s.w ≤ room mem.now) }
     ensures { NextStretch s mem.now i result }
 {
     let k = s.k;
@@ -182,7 +182,7 @@ pub fn next_turn(
     stepped: Pass,
 ) -> Turn
     requires { Planned s × RowsIn s s.l s.f pushes.now counts.pushes × RowsIn s s.f s.l pops.now counts.pops
-        × (turn.stretch < stretchCount s) × (s.w ≤ room mem.old) }
+        × (turn.stretch < stretch_count s) × (s.w ≤ room mem.old) }
     ensures { (st : List ℕ) (b : Pass) (m₀ m : List ℕ) → Given s counts st pushes.now pops.now
         → Turning s counts st pushes.now pops.now put b turn m₀ m
         → Stepped s counts st put turn stepped m mem.old

@@ -4,7 +4,7 @@ use Rattle.model.specs.Rules.{Fact, G, P, Q}
 use Rattle.words.specs.Text.{bytes, line}
 
 -- "fields in the order of the facts", as "G 0 0 1"
-abbrev pub factLine : Fact → List ℕ
-factLine (G t g g') = line (bytes "G") (t ∷ g ∷ g' ∷ [])
-factLine (P t g l g' l') = line (bytes "P") (t ∷ g ∷ l ∷ g' ∷ l' ∷ [])
-factLine (Q t g l f g' l') = line (bytes "Q") (t ∷ g ∷ l ∷ f ∷ g' ∷ l' ∷ [])
+abbrev pub fact_line : Fact → List ℕ
+fact_line (G t g g') = line (bytes "G") (t ∷ g ∷ g' ∷ [])
+fact_line (P t g l g' l') = line (bytes "P") (t ∷ g ∷ l ∷ g' ∷ l' ∷ [])
+fact_line (Q t g l f g' l') = line (bytes "Q") (t ∷ g ∷ l ∷ f ∷ g' ∷ l' ∷ [])

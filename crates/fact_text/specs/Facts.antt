@@ -2,14 +2,14 @@
 use Rattle.std.specs.Prelude.{[], ℕ}
 use Rattle.files.specs.Table.{Table}
 use Rattle.model.specs.Rules.{Fact, G, P, Q}
-use Rattle.model.specs.Positions.{factAt}
+use Rattle.model.specs.Positions.{fact_at}
 use Rattle.positions.specs.declared.plan.Plan.{Plan}
 use Rattle.fact_text.specs.declared.facts.FactFields.{FactFields}
 use Rattle.fact_text.specs.declared.facts.FactFields.TheVariants as fields
 
 -- A table with a plan's sizes and nothing else. What stands at a position hangs on the sizes alone, so it serves for any table of the plan.
-abbrev pub bareTable : Plan → Table
-bareTable s =
+abbrev pub bare_table : Plan → Table
+bare_table s =
     record {
       n = s.n;
       G = s.g;
@@ -25,8 +25,8 @@ bareTable s =
     }
 
 -- the fact at position p
-abbrev pub planFact : Plan → ℕ → Fact
-planFact s p = factAt (bareTable s) p
+abbrev pub plan_fact : Plan → ℕ → Fact
+plan_fact s p = fact_at (bare_table s) p
 
 -- a fact as the code answers it
 abbrev pub fields_of : Fact → FactFields

@@ -1,8 +1,8 @@
 // The fact at a position, its numbers taken off from the right by division and remainder.
 ghost use Rattle.std.specs.Prelude.{◌≡◌, ◌<◌};
-ghost use Rattle.model.specs.Positions.{atG, at_p, atQ};
+ghost use Rattle.model.specs.Positions.{at_g, at_p, at_q};
 ghost use Rattle.positions.specs.Plans.{Planned};
-ghost use Rattle.fact_text.specs.Facts.{bareTable, planFact, fields_of};
+ghost use Rattle.fact_text.specs.Facts.{bare_table, plan_fact, fields_of};
 
 use positions::plan::Plan;
 
@@ -34,7 +34,7 @@ pub enum FactFields {
 // G fact number i, counted from 0.
 fn g_fact(s: Plan, i: usize) -> FactFields
     requires { Planned s }
-    ensures { result ≡ fields_of (atG (bareTable s) i) }
+    ensures { result ≡ fields_of (at_g (bare_table s) i) }
 {
     let shared = s.g;
     let a = i / shared;
@@ -47,7 +47,7 @@ fn g_fact(s: Plan, i: usize) -> FactFields
 // P fact number i, counted from 0.
 fn p_fact(s: Plan, i: usize) -> FactFields
     requires { Planned s }
-    ensures { result ≡ fields_of (at_p (bareTable s) i) }
+    ensures { result ≡ fields_of (at_p (bare_table s) i) }
 {
     let shared = s.g;
     let local = s.l;
@@ -65,7 +65,7 @@ fn p_fact(s: Plan, i: usize) -> FactFields
 // Q fact number i, counted from 0.
 fn q_fact(s: Plan, i: usize) -> FactFields
     requires { Planned s × (0 < s.f) }
-    ensures { result ≡ fields_of (atQ (bareTable s) i) }
+    ensures { result ≡ fields_of (at_q (bare_table s) i) }
 {
     let shared = s.g;
     let local = s.l;
@@ -86,7 +86,7 @@ fn q_fact(s: Plan, i: usize) -> FactFields
 // The fact at position p, by the part of the positions that p is in: first the G facts, then the P facts, then the Q facts.
 pub fn fact_at(s: Plan, p: usize) -> FactFields
     requires { Planned s × (p < s.w) }
-    ensures { result ≡ fields_of (planFact s p) }
+    ensures { result ≡ fields_of (plan_fact s p) }
 {
     if p < s.p {
         return g_fact(s, p);

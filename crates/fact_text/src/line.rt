@@ -2,8 +2,8 @@
 ghost use Rattle.std.specs.Prelude.{◌<◌};
 ghost use Rattle.positions.specs.Plans.{Planned};
 ghost use Rattle.words.specs.Text.{Written};
-ghost use Rattle.fact_text.specs.FactLines.{factLine};
-ghost use Rattle.fact_text.specs.Facts.{planFact};
+ghost use Rattle.fact_text.specs.FactLines.{fact_line};
+ghost use Rattle.fact_text.specs.Facts.{plan_fact};
 
 use crate::facts::{FactFields, fact_at};
 use positions::plan::Plan;
@@ -13,7 +13,7 @@ use words::line::put_line;
 // The line of the fact at position p.
 pub fn fact_line(s: Plan, p: usize, out: &mut [u8; ROOM]) -> usize
     requires { Planned s × (p < s.w) }
-    ensures { Written (factLine (planFact s p)) out.old out.new result }
+    ensures { Written (fact_line (plan_fact s p)) out.old out.new result }
 {
     match fact_at(s, p) {
         FactFields::G { t, g, g2 } => put_line(out, b"G", &[t, g, g2]),

@@ -3,13 +3,13 @@ use mathlib.Core.Path.{◌≡◌}
 use mathlib.Core.List.{List}
 use Prim.Native.Nat.{ℕ}
 use Rattle.numbers.specs.declared.refusals.Refusal.{Refusal}
-use Rattle.numbers.specs.Reading.{got, bad, versionAt}
-use Rattle.cells.specs.Columns.{stepColumns, pushColumns, popColumns, errorColumns}
+use Rattle.numbers.specs.Reading.{got, bad, version_at}
+use Rattle.cells.specs.Columns.{step_columns, push_columns, pop_columns, error_columns}
 use Rattle.cells.specs.Rows.{row_at}
-use Rattle.lists.specs.Lists.{listAt}
+use Rattle.lists.specs.Lists.{list_at}
 use Rattle.files.specs.declared.header.Header.{Header}
-use Rattle.files.specs.Table.{mostSteps, mostPushes, mostPops, mostErrors}
-use Rattle.files.specs.Header.{sizeColumns, placeColumns, localColumns, sizesOf, header_at}
+use Rattle.files.specs.Table.{most_steps, most_pushes, most_pops, most_errors}
+use Rattle.files.specs.Header.{size_columns, place_columns, local_columns, sizes_of, header_at}
 use Rattle.files.specs.File.{table_at}
 
 module _ (s : List ℕ) {x : Refusal} where
@@ -17,37 +17,37 @@ module _ (s : List ℕ) {x : Refusal} where
   unfolding table_at
   header_refused e = rw e
 
-  module _ (v a : ℕ) (version : versionAt s ≡ got v a) where
-    pub sizes-refused : row_at sizeColumns s a ≡ bad x → table_at s ≡ bad x
+  module _ (v a : ℕ) (version : version_at s ≡ got v a) where
+    pub sizes_refused : row_at size_columns s a ≡ bad x → table_at s ≡ bad x
     unfolding header_at
-    sizes-refused e = header_refused (rw version (rw e))
+    sizes_refused e = header_refused (rw version (rw e))
 
-    module _ (z : List ℕ) (b : ℕ) (sizes : row_at sizeColumns s a ≡ got z b) where
-      pub places-refused : row_at (placeColumns (sizesOf z)) s b ≡ bad x → table_at s ≡ bad x
+    module _ (z : List ℕ) (b : ℕ) (sizes : row_at size_columns s a ≡ got z b) where
+      pub places_refused : row_at (place_columns (sizes_of z)) s b ≡ bad x → table_at s ≡ bad x
       unfolding header_at
-      places-refused e = header_refused (rw version (rw sizes (rw e)))
+      places_refused e = header_refused (rw version (rw sizes (rw e)))
 
-      pub locals-refused : (q : List ℕ) (c : ℕ) → row_at (placeColumns (sizesOf z)) s b ≡ got q c → row_at (localColumns (sizesOf z)) s c ≡ bad x
+      pub locals_refused : (q : List ℕ) (c : ℕ) → row_at (place_columns (sizes_of z)) s b ≡ got q c → row_at (local_columns (sizes_of z)) s c ≡ bad x
           → table_at s ≡ bad x
       unfolding header_at
-      locals-refused q c places e = header_refused (rw version (rw sizes (rw places (rw e))))
+      locals_refused q c places e = header_refused (rw version (rw sizes (rw places (rw e))))
 
   module _ (h : Header) (a : ℕ) (header : header_at s ≡ got h a) where
-    pub steps-refused : listAt mostSteps (stepColumns h.sizes) s a ≡ bad x → table_at s ≡ bad x
+    pub steps_refused : list_at most_steps (step_columns h.sizes) s a ≡ bad x → table_at s ≡ bad x
     unfolding table_at
-    steps-refused e = rw header (rw e)
+    steps_refused e = rw header (rw e)
 
-    module _ (st : List (List ℕ)) (b : ℕ) (steps : listAt mostSteps (stepColumns h.sizes) s a ≡ got st b) where
-      pub pushes-refused : listAt mostPushes (pushColumns h.sizes) s b ≡ bad x → table_at s ≡ bad x
+    module _ (st : List (List ℕ)) (b : ℕ) (steps : list_at most_steps (step_columns h.sizes) s a ≡ got st b) where
+      pub pushes_refused : list_at most_pushes (push_columns h.sizes) s b ≡ bad x → table_at s ≡ bad x
       unfolding table_at
-      pushes-refused e = rw header (rw steps (rw e))
+      pushes_refused e = rw header (rw steps (rw e))
 
-      module _ (pu : List (List ℕ)) (c : ℕ) (pushes : listAt mostPushes (pushColumns h.sizes) s b ≡ got pu c) where
-        pub pops-refused : listAt mostPops (popColumns h.sizes) s c ≡ bad x → table_at s ≡ bad x
+      module _ (pu : List (List ℕ)) (c : ℕ) (pushes : list_at most_pushes (push_columns h.sizes) s b ≡ got pu c) where
+        pub pops_refused : list_at most_pops (pop_columns h.sizes) s c ≡ bad x → table_at s ≡ bad x
         unfolding table_at
-        pops-refused e = rw header (rw steps (rw pushes (rw e)))
+        pops_refused e = rw header (rw steps (rw pushes (rw e)))
 
-        pub errors-refused : (po : List (List ℕ)) (d : ℕ) → listAt mostPops (popColumns h.sizes) s c ≡ got po d
-            → listAt mostErrors (errorColumns h.sizes) s d ≡ bad x → table_at s ≡ bad x
+        pub errors_refused : (po : List (List ℕ)) (d : ℕ) → list_at most_pops (pop_columns h.sizes) s c ≡ got po d
+            → list_at most_errors (error_columns h.sizes) s d ≡ bad x → table_at s ≡ bad x
         unfolding table_at
-        errors-refused po d pops e = rw header (rw steps (rw pushes (rw pops (rw e))))
+        errors_refused po d pops e = rw header (rw steps (rw pushes (rw pops (rw e))))

@@ -8,7 +8,7 @@ use denote.Triple.Clauses.{AtExit}
 use borrow.Fn.Kinds.{Dens, ended_of}
 use Rattle.files.specs.declared.table.TableRead.{TableRead}
 use Rattle.files.specs.File.{TableIs}
-use Rattle.files.proofs.header.w_of.Reads as w-of
+use Rattle.files.proofs.header.w_of.Reads as w_of_lem
 use Rattle.files.proofs.header.w_of.Kinds as w-of-kinds
 use Rattle.files.proofs.header.read_header.Reads as read-header
 use Rattle.files.proofs.header.read_header.Kinds as read-header-kinds
@@ -16,19 +16,19 @@ use Rattle.files.proofs.table.read_table.Reads as read_table
 use Rattle.files.proofs.table.read_table.Kinds as read-table-kinds
 use Rattle.numbers.proofs.Unique.{same, Fixes}
 
-pub w-of-fixes : Fixes w-of-kinds.ps w-of-kinds.r w-of.Post
-w-of-fixes κs a x x' s s' = same
+pub w_of_fixes : Fixes w-of-kinds.ps w-of-kinds.r w_of_lem.Post
+w_of_fixes κs a x x' s s' = same
 
-pub read-header-fixes : Fixes read-header-kinds.ps read-header-kinds.r read-header.Post
-read-header-fixes κs a x x' s s' = same
+pub read_header_fixes : Fixes read-header-kinds.ps read-header-kinds.r read-header.Post
+read_header_fixes κs a x x' s s' = same
 
 -- the answer of the table reader, and every byte of the four memories
-pub table-is-unique : (s : List ℕ) (r r' : TableRead) (a b c d a' b' c' d' a'' b'' c'' d'' : List ℕ)
+pub table_is_unique : (s : List ℕ) (r r' : TableRead) (a b c d a' b' c' d' a'' b'' c'' d'' : List ℕ)
     → TableIs s r a b c d a' b' c' d' → TableIs s r' a b c d a'' b'' c'' d'' → (r ≡ r') × (a' ≡ a'') × (b' ≡ b'') × (c' ≡ c'') × (d' ≡ d'')
-table-is-unique s r r' a b c d a' b' c' d' a'' b'' c'' d'' t u =
+table_is_unique s r r' a b c d a' b' c' d' a'' b'' c'' d'' t u =
     (same t.answer u.answer, same t.steps u.steps, same t.pushes u.pushes, same t.pops u.pops, same t.errors u.errors)
 
-pub read-table-fixes : (κs : Lfts 5) (a : Dens κs read-table-kinds.ps) (x x' : TableRead)
+pub read_table_fixes : (κs : Lfts 5) (a : Dens κs read-table-kinds.ps) (x x' : TableRead)
     (s s' : AtExit (ended_of 5 read-table-kinds.ps read-table-kinds.r) κs)
     → read_table.Post κs a x s → read_table.Post κs a x' s'
     → (x ≡ x')
@@ -36,4 +36,4 @@ pub read-table-fixes : (κs : Lfts 5) (a : Dens κs read-table-kinds.ps) (x x' :
     × (s.1.1.0.now ≡ s'.1.1.0.now)
     × (s.1.1.1.0.now ≡ s'.1.1.1.0.now)
     × (s.1.1.1.1.0.now ≡ s'.1.1.1.1.0.now)
-read-table-fixes κs a x x' s s' = table-is-unique _ x x' _ _ _ _ _ _ _ _ _ _ _ _
+read_table_fixes κs a x x' s s' = table_is_unique _ x x' _ _ _ _ _ _ _ _ _ _ _ _

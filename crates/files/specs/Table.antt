@@ -6,29 +6,29 @@ use Rattle.lists.specs.Order.{Ascending}
 
 -- ---- the limits
 
-abbrev pub mostThreads : ℕ
-mostThreads = 4
+abbrev pub most_threads : ℕ
+most_threads = 4
 
-abbrev pub mostShared : ℕ
-mostShared = 16
+abbrev pub most_shared : ℕ
+most_shared = 16
 
-abbrev pub mostLocals : ℕ
-mostLocals = 16
+abbrev pub most_locals : ℕ
+most_locals = 16
 
-abbrev pub mostFrames : ℕ
-mostFrames = 8
+abbrev pub most_frames : ℕ
+most_frames = 8
 
-abbrev pub mostSteps : ℕ
-mostSteps = 1024
+abbrev pub most_steps : ℕ
+most_steps = 1024
 
-abbrev pub mostPushes : ℕ
-mostPushes = 256
+abbrev pub most_pushes : ℕ
+most_pushes = 256
 
-abbrev pub mostPops : ℕ
-mostPops = 256
+abbrev pub most_pops : ℕ
+most_pops = 256
 
-abbrev pub mostErrors : ℕ
-mostErrors = 64
+abbrev pub most_errors : ℕ
+most_errors = 64
 
 -- ---- a table
 
@@ -78,17 +78,17 @@ pub record Table : Type 0 where
 
 -- ---- the cells of a row, in file order: five, with 0 for the threads that are not there
 
-abbrev pub stepCells : Step → List ℕ
-stepCells r = r.t ∷ r.g ∷ r.l ∷ r.g' ∷ r.l' ∷ []
+abbrev pub step_cells : Step → List ℕ
+step_cells r = r.t ∷ r.g ∷ r.l ∷ r.g' ∷ r.l' ∷ []
 
-abbrev pub pushCells : Push → List ℕ
-pushCells r = r.t ∷ r.g ∷ r.l ∷ r.l' ∷ r.f ∷ []
+abbrev pub push_cells : Push → List ℕ
+push_cells r = r.t ∷ r.g ∷ r.l ∷ r.l' ∷ r.f ∷ []
 
-abbrev pub popCells : Pop → List ℕ
-popCells r = r.t ∷ r.g ∷ r.l ∷ r.f ∷ r.l' ∷ []
+abbrev pub pop_cells : Pop → List ℕ
+pop_cells r = r.t ∷ r.g ∷ r.l ∷ r.f ∷ r.l' ∷ []
 
-abbrev pub errorCells : Error → List ℕ
-errorCells r = r.shared ∷ get_or r.locals 0 0 ∷ get_or r.locals 1 0 ∷ get_or r.locals 2 0 ∷ get_or r.locals 3 0 ∷ []
+abbrev pub error_cells : Error → List ℕ
+error_cells r = r.shared ∷ get_or r.locals 0 0 ∷ get_or r.locals 1 0 ∷ get_or r.locals 2 0 ∷ get_or r.locals 3 0 ∷ []
 
 -- ---- every number in its range
 
@@ -126,28 +126,28 @@ pub record Rows {A : Type 0} (most : ℕ) (Fits : A → Type 0) (cells : A → L
 
 -- what is known of a table that the reader accepts
 pub record Sound (T : Table) : Type 0 where
-  pub n : (1 ≤ T.n) × (T.n ≤ mostThreads)
-  pub G : (1 ≤ T.G) × (T.G ≤ mostShared)
-  pub L : (1 ≤ T.L) × (T.L ≤ mostLocals)
-  pub F : T.F ≤ mostFrames
+  pub n : (1 ≤ T.n) × (T.n ≤ most_threads)
+  pub G : (1 ≤ T.G) × (T.G ≤ most_shared)
+  pub L : (1 ≤ T.L) × (T.L ≤ most_locals)
+  pub F : T.F ≤ most_frames
   pub failed : T.failed ≤ T.L
   pub g₀ : T.g₀ < T.G
   pub count : length T.locals ≡ T.n
   pub locals : (t : ℕ) → t < T.n → get_or T.locals t 0 < T.L
-  pub steps : Rows mostSteps (StepFits T) stepCells T.steps
-  pub pushes : Rows mostPushes (PushFits T) pushCells T.pushes
-  pub pops : Rows mostPops (PopFits T) popCells T.pops
-  pub errors : Rows mostErrors (ErrorFits T) errorCells T.errors
+  pub steps : Rows most_steps (StepFits T) step_cells T.steps
+  pub pushes : Rows most_pushes (PushFits T) push_cells T.pushes
+  pub pops : Rows most_pops (PopFits T) pop_cells T.pops
+  pub errors : Rows most_errors (ErrorFits T) error_cells T.errors
 
 -- ---- how many facts it may have (document 01, "Working memory and claims")
 
-unfoldable pub wOf : ℕ → ℕ → ℕ → ℕ → ℕ
-wOf n G L F = n * (G * G) * (1 + L * L * (1 + F))
+unfoldable pub w_of : ℕ → ℕ → ℕ → ℕ → ℕ
+w_of n G L F = n * (G * G) * (1 + L * L * (1 + F))
 
 unfoldable pub W : Table → ℕ
-unfolding wOf
-W T = wOf T.n T.G T.L T.F
+unfolding w_of
+W T = w_of T.n T.G T.L T.F
 
 -- the largest W: "at most 2,360,320"
-abbrev pub mostFacts : ℕ
-mostFacts = 2360320
+abbrev pub most_facts : ℕ
+most_facts = 2360320

@@ -1,9 +1,9 @@
 // The header of a table file: all that stands before the count of step rows.
 ghost use Rattle.std.specs.Prelude.{◌≡◌};
-ghost use Rattle.numbers.specs.Reading.{versionAt};
-ghost use Rattle.files.specs.Table.{wOf};
+ghost use Rattle.numbers.specs.Reading.{version_at};
+ghost use Rattle.files.specs.Table.{w_of};
 ghost use Rattle.reader.specs.Ends.{end_of};
-ghost use Rattle.files.specs.Header.{sizeColumns, placeColumns, localColumns, header_at, headerReadOf, sizesOf, no_header};
+ghost use Rattle.files.specs.Header.{size_columns, place_columns, local_columns, header_at, header_read_of, sizes_of, no_header};
 
 use cells::columns::{Column, Sizes, of_thread};
 use cells::row::row_after;
@@ -41,7 +41,7 @@ pub struct HeaderRead {
 
 // W of a table of these sizes: how many facts it may have, and so how many bytes of working memory it takes.
 pub fn w_of(sizes: Sizes) -> usize
-    ensures { result ≡ wOf sizes.threads sizes.shared sizes.locals sizes.frames }
+    ensures { result ≡ w_of sizes.threads sizes.shared sizes.locals sizes.frames }
 {
     let n = sizes.threads as usize;
     let shared = sizes.shared as usize;
@@ -52,7 +52,7 @@ pub fn w_of(sizes: Sizes) -> usize
 
 // The end of the version that the file begins with.
 fn version_end(src: &[u8]) -> End
-    ensures { result ≡ end_of (versionAt src.now) }
+    ensures { result ≡ end_of (version_at src.now) }
 {
     match reader::fields::version(src) {
         Read::Value { value: _, next } => End::Past { next },
@@ -62,7 +62,7 @@ fn version_end(src: &[u8]) -> End
 
 // The sizes of a table.
 fn size_columns() -> [Column; 5]
-    ensures { result ≡ sizeColumns }
+    ensures { result ≡ size_columns }
 {
     [
         Column::Within {
@@ -87,7 +87,7 @@ fn size_columns() -> [Column; 5]
 
 // The failed store and the initial shared store.
 fn place_columns(z: Sizes) -> [Column; 5]
-    ensures { result ≡ placeColumns z }
+    ensures { result ≡ place_columns z }
 {
     let failed = Column::Within {
         low: 0,
@@ -105,7 +105,7 @@ fn place_columns(z: Sizes) -> [Column; 5]
 
 // Each thread's initial local store.
 fn local_columns(z: Sizes) -> [Column; 5]
-    ensures { result ≡ localColumns z }
+    ensures { result ≡ local_columns z }
 {
     let n = z.threads;
     let local = Column::Below { end: z.locals };
@@ -120,7 +120,7 @@ fn local_columns(z: Sizes) -> [Column; 5]
 
 // The sizes in the first four cells of a row.
 fn sizes_of(cells: [u8; 5]) -> Sizes
-    ensures { result ≡ sizesOf cells }
+    ensures { result ≡ sizes_of cells }
 {
     Sizes {
         threads: cells[0],
@@ -149,7 +149,7 @@ pub(crate) fn no_header() -> Header
 
 // The header at the start of a file.
 pub fn read_header(src: &[u8]) -> HeaderRead
-    ensures { result ≡ headerReadOf (header_at src.now) }
+    ensures { result ≡ header_read_of (header_at src.now) }
 {
     let version = version_end(src);
     let first = row_after(src, version, size_columns());

@@ -3,7 +3,7 @@
 ghost use Rattle.std.specs.Prelude.{◌≡◌, ℕ};
 ghost use Rattle.numbers.specs.Reading.{bad};
 ghost use Rattle.reader.specs.declared.ends.End.TheVariants.{Past};
-ghost use Rattle.files.specs.File.{tableReadOf, TableIs};
+ghost use Rattle.files.specs.File.{table_read_of, TableIs};
 ghost use Rattle.files.specs.Stages.{PartsOf, PartsKept};
 
 use crate::header::{Header, no_header, read_header};
@@ -57,7 +57,7 @@ pub struct TableRead {
 
 // A table that is refused.
 fn no_table(refusal: Refusal) -> TableRead
-    ensures { result ≡ tableReadOf (bad refusal) }
+    ensures { result ≡ table_read_of (bad refusal) }
 {
     TableRead {
         header: no_header(),

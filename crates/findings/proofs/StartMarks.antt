@@ -5,41 +5,41 @@ use mathlib.Core.List.{List}
 use Prim.Native.Nat.{ℕ, ◌<◌}
 use native.Mathlib.Omega.{arith}
 use Rattle.files.specs.Table.{Table, Sound}
-use Rattle.model.specs.Rules.{startFact}
+use Rattle.model.specs.Rules.{start_fact}
 use Rattle.model.specs.Positions.{pos}
 use Rattle.model.specs.Memory.{Marked}
 use Rattle.positions.specs.declared.plan.Plan.{Plan}
 use Rattle.positions.specs.Plans.{plan_of}
 use Rattle.store.specs.Marking.{Has}
-use Rattle.store.proofs.MarkLaws.{marked-has, has-marked}
+use Rattle.store.proofs.MarkLaws.{marked_has, has_marked}
 use Rattle.engine.specs.Given.{StartOf}
 use Rattle.engine.specs.StartFacts.{start_at}
 use Rattle.engine.proofs.StartLaws.{start_fits, start_is}
 use Rattle.findings.specs.Found.{Started, lacking, whole}
 
 -- a plan has its table's threads
-pub threads-by : (T : Table) {s : Plan} → s ≡ plan_of T → s.n ≡ T.n
-threads-by T plan = ap (λ (x : Plan). x.n) plan
+pub threads_by : (T : Table) {s : Plan} → s ≡ plan_of T → s.n ≡ T.n
+threads_by T plan = ap (λ (x : Plan). x.n) plan
 
 module _ {T : Table} (sound : Sound T) {s : Plan} (plan : s ≡ plan_of T) {g : ℕ} {locals : List ℕ} (of : StartOf T g locals) where
-  stands : (t : ℕ) → t < T.n → pos T (startFact T t) ≡ start_at s g locals t
+  stands : (t : ℕ) → t < T.n → pos T (start_fact T t) ≡ start_at s g locals t
   stands t h = start_is sound of t h ∙ ap (λ (x : Plan). start_at x g locals t) (sym plan)
 
-  start-marked : {m : List ℕ} (t : ℕ) → t < T.n → Has m (start_at s g locals t) → Marked T m (startFact T t)
-  start-marked t h a = has-marked (startFact T t) (start_fits sound of t h) (stands t h) a
+  start_marked : {m : List ℕ} (t : ℕ) → t < T.n → Has m (start_at s g locals t) → Marked T m (start_fact T t)
+  start_marked t h a = has_marked (start_fact T t) (start_fits sound of t h) (stands t h) a
 
-  marked_start : {m : List ℕ} (t : ℕ) → t < T.n → Marked T m (startFact T t) → Has m (start_at s g locals t)
-  marked_start {m} t h a = subst (Has m) (stands t h) (marked-has a)
+  marked_start : {m : List ℕ} (t : ℕ) → t < T.n → Marked T m (start_fact T t) → Has m (start_at s g locals t)
+  marked_start {m} t h a = subst (Has m) (stands t h) (marked_has a)
 
-  pub first-lacking : {m : List ℕ} (t : ℕ) → t < s.n → ((u : ℕ) → u < t → Has m (start_at s g locals u)) → ¬ Has m (start_at s g locals t)
+  pub first_lacking : {m : List ℕ} (t : ℕ) → t < s.n → ((u : ℕ) → u < t → Has m (start_at s g locals u)) → ¬ Has m (start_at s g locals t)
       → Started T m t
-  first-lacking t h before n =
-      let i : t < T.n = omega (arith, threads-by T plan) in
+  first_lacking t h before n =
+      let i : t < T.n = omega (arith, threads_by T plan) in
       lacking
       (record {
         here = record { thread = i; not = λ a. n (marked_start t i a) };
-        none = λ u l a. a.not (start-marked u a.thread (before u l));
+        none = λ u l a. a.not (start_marked u a.thread (before u l));
       })
 
-  pub none-lacking : {m : List ℕ} → ((u : ℕ) → u < s.n → Has m (start_at s g locals u)) → Started T m s.n
-  none-lacking all = whole (threads-by T plan) (λ t h. start-marked t h (all t (omega (arith, threads-by T plan))))
+  pub none_lacking : {m : List ℕ} → ((u : ℕ) → u < s.n → Has m (start_at s g locals u)) → Started T m s.n
+  none_lacking all = whole (threads_by T plan) (λ t h. start_marked t h (all t (omega (arith, threads_by T plan))))

@@ -13,8 +13,8 @@ pub data Started (T : Table) (m : List ℕ) (t : ℕ) : Type 0 where
   whole : t ≡ T.n → Starts T (Marked T m) → Started T m t
 
 -- the model's finding that a case stands for
-abbrev pub findingOf : Finding → model.Finding
-findingOf Accepted = model.accepted
-findingOf (LacksStart thread) = model.lacks-start thread
-findingOf (NotClosed position) = model.not-closed position
-findingOf (AllowsError row) = model.allows-error row
+abbrev pub finding_of : Finding → model.Finding
+finding_of Accepted = model.accepted
+finding_of (LacksStart thread) = model.lacks_start thread
+finding_of (NotClosed position) = model.not_closed position
+finding_of (AllowsError row) = model.allows_error row

@@ -6,7 +6,7 @@ ghost use Rattle.model.specs.Memory.{Marked};
 ghost use Rattle.model.specs.Claims.{Finds};
 ghost use Rattle.verdict.specs.ErrorRows.{ErrorsOf};
 ghost use Rattle.check_call.specs.Lent.{Stored};
-ghost use Rattle.findings.specs.Found.{findingOf};
+ghost use Rattle.findings.specs.Found.{finding_of};
 
 use crate::starts::lacking_start;
 use engine::run::missing;
@@ -33,7 +33,7 @@ pub enum Finding {
 fn find_error(s: Plan, failed: u8, errors: &[u8; ERROR_BYTES], n: usize, mem: &[u8]) -> Finding
     requires { ((T : Table) × ErrorsOf T s failed errors.now n) × (5 * n ≤ length errors.now) × (s.w ≤ length mem.now) }
     ensures { (T : Table) → ErrorsOf T s failed errors.now n
-        → ClosedWithStarts T (Marked T mem.now) → Finds T (Marked T mem.now) (findingOf result) }
+        → ClosedWithStarts T (Marked T mem.now) → Finds T (Marked T mem.now) (finding_of result) }
 {
     match judge(s, failed as usize, errors, n, mem) {
         Verdict::Safe => Finding::Accepted,
@@ -62,7 +62,7 @@ pub fn find(
     requires { (T : Table) × Stored T header counts steps.now pushes.now pops.now errors.now × (W T ≤ length mem.old) }
     ensures found { (T : Table)
         → Stored T header counts steps.now pushes.now pops.now errors.now
-        → Finds T (Marked T mem.old) (findingOf result) }
+        → Finds T (Marked T mem.old) (finding_of result) }
     ensures kept { mem.new ≡ mem.old }
 {
     let sizes = header.sizes;

@@ -20,9 +20,9 @@ pub record ReadOn (buf part : List ℕ) (done count : ℕ) : Type 0 where
   pub within : done + count ≤ length buf
   pub same : length (put_mid done (length buf - done) buf part) ≡ length buf
 
-pub read-on : {input : Input} {count : ℕ} (buf part : List ℕ) (done : ℕ) → done ≤ length buf
+pub read_on : {input : Input} {count : ℕ} (buf part : List ℕ) (done : ℕ) → done ≤ length buf
     → length part ≡ length (mid_of done (length buf - done) buf) → Filled input part → input ≡ Bytes count → ReadOn buf part done count
-read-on buf part done up long filled e =
+read_on buf part done up long filled e =
     record {
       within = omega (arith, mid_len done (length buf) buf (omega arith), (bytes_counted part filled e).0);
       same = same_len_mid done (length buf - done) buf part long;

@@ -9,17 +9,17 @@ use native.Mathlib.Nat.{zero-add}
 use lib.ListN.{length, length-append}
 use lib.Seq.{sets, length-sets}
 use Rattle.numbers.specs.Reading.{got}
-use Rattle.numbers.proofs.PutLaws.{sets-append}
+use Rattle.numbers.proofs.PutLaws.{sets_append}
 use Rattle.cells.specs.declared.columns.Column.{Column}
 use Rattle.cells.specs.Rows.{row_at}
-use Rattle.cells.proofs.RowFits.{row-long}
-use Rattle.lists.specs.Lists.{nextRow, rows_at, flat}
-use Rattle.lists.specs.Keeping.{Found, RowKept, listHeld}
-use Rattle.lists.proofs.ListLaws.{Listing, list-start, list-more, list_all, next-got, next-found}
+use Rattle.cells.proofs.RowFits.{row_long}
+use Rattle.lists.specs.Lists.{next_row, rows_at, flat}
+use Rattle.lists.specs.Keeping.{Found, RowKept, list_held}
+use Rattle.lists.proofs.ListLaws.{Listing, list_start, list_more, list_all, next_got, next_found}
 
-flat-snoc : (rs : List (List ℕ)) (r : List ℕ) → flat (rs ++ (r ∷ [])) ≡ flat rs ++ r
-flat-snoc [] r = append-nil r
-flat-snoc (x ∷ rs) r = ap (λ (l : List ℕ). x ++ l) (flat-snoc rs r) ∙ sym (append_assoc x (flat rs) r)
+flat_snoc : (rs : List (List ℕ)) (r : List ℕ) → flat (rs ++ (r ∷ [])) ≡ flat rs ++ r
+flat_snoc [] r = append-nil r
+flat_snoc (x ∷ rs) r = ap (λ (l : List ℕ). x ++ l) (flat_snoc rs r) ∙ sym (append_assoc x (flat rs) r)
 
 pub record Keeping (count : ℕ) (cs : List Column) (s : List ℕ) (at : ℕ) (d₀ d : List ℕ) (p i : ℕ) : Type 0 where
   pub five : length cs ≡ 5
@@ -30,37 +30,37 @@ pub record Keeping (count : ℕ) (cs : List Column) (s : List ℕ) (at : ℕ) (d
   pub wide : length (flat done) ≡ 5 * i
 
 module _ {count : ℕ} {cs : List Column} {s : List ℕ} {at : ℕ} {d₀ : List ℕ} where
-  pub keep-start : length cs ≡ 5 → Keeping count cs s at d₀ d₀ at 0
-  keep-start five = record { five = five; done = []; old = []; listing = list-start; held = refl; wide = refl }
+  pub keep_start : length cs ≡ 5 → Keeping count cs s at d₀ d₀ at 0
+  keep_start five = record { five = five; done = []; old = []; listing = list_start; held = refl; wide = refl }
 
   module _ {d : List ℕ} {p i : ℕ} (k : Keeping count cs s at d₀ d p i) where
-    pub keep-long : length d ≡ length d₀
-    keep-long = ap length k.held ∙ length-sets d₀ 0 (flat k.done)
+    pub keep_long : length d ≡ length d₀
+    keep_long = ap length k.held ∙ length-sets d₀ 0 (flat k.done)
 
     module _ (h : i < count) (w : Found (rows_at count [] cs s at)) where
       -- a row that is read is the next one
-      is-next : {r : List ℕ} {n : ℕ} → row_at cs s p ≡ got r n → nextRow k.old cs s p ≡ got r n
-      is-next e =
-          let (r', n', q) = next-found k.listing h w in
-          q ∙ sym (next-got k.old cs s p r' n' q).0 ∙ e
+      is_next : {r : List ℕ} {n : ℕ} → row_at cs s p ≡ got r n → next_row k.old cs s p ≡ got r n
+      is_next e =
+          let (r', n', q) = next_found k.listing h w in
+          q ∙ sym (next_got k.old cs s p r' n' q).0 ∙ e
 
       -- where the whole list is found, so is the row at p
-      pub keep-found : Found (row_at cs s p)
-      keep-found = let (r, n, q) = next-found k.listing h w in (r, n, (next-got k.old cs s p r n q).0)
+      pub keep_found : Found (row_at cs s p)
+      keep_found = let (r, n, q) = next_found k.listing h w in (r, n, (next_got k.old cs s p r n q).0)
 
-      pub keep-more : {d' : List ℕ} {n : ℕ} → RowKept (row_at cs s p) (5 * i) d d' n → Keeping count cs s at d₀ d' n (i + 1)
-      keep-more {d'} {n} row =
+      pub keep_more : {d' : List ℕ} {n : ℕ} → RowKept (row_at cs s p) (5 * i) d d' n → Keeping count cs s at d₀ d' n (i + 1)
+      keep_more {d'} {n} row =
           let r = row.cells in
           let e : row_at cs s p ≡ got r n = row.was in
-          let long : length r ≡ 5 = row-long cs s p r n e ∙ k.five in
+          let long : length r ≡ 5 = row_long cs s p r n e ∙ k.five in
           record {
             five = k.five;
             done = k.done ++ (r ∷ []);
             old = r;
-            listing = list-more k.listing h (is-next e);
-            held = row.held ∙ rw (flat-snoc k.done r, k.held, ← k.wide, ← sets-append (flat k.done) r d₀ 0, zero-add);
-            wide = rw (flat-snoc k.done r, length-append) (omega (arith, k.wide));
+            listing = list_more k.listing h (is_next e);
+            held = row.held ∙ rw (flat_snoc k.done r, k.held, ← k.wide, ← sets_append (flat k.done) r d₀ 0, zero-add);
+            wide = rw (flat_snoc k.done r, length-append) (omega (arith, k.wide));
           }
 
-    pub keep-end : count ≤ i → d ≡ listHeld (rows_at count [] cs s at) d₀
-    keep-end h = rw (list_all k.listing h) k.held
+    pub keep_end : count ≤ i → d ≡ list_held (rows_at count [] cs s at) d₀
+    keep_end h = rw (list_all k.listing h) k.held

@@ -1,9 +1,9 @@
 -- Laws of the next row and of a list of rows, and the invariant of the loop that finds one.
---     next-yes, -no, -bad, -first    what `nextRow` gives, one law for each way that it goes
---     next-got                       what is known of a next row that was read
---     rows_none, -step, -stop        what `rows_at` gives, by its first row
---     list_counted, -uncounted       what `listAt` gives, by its count
---     Listing, list-…, next-found    i rows are read, and the rest of the list stands from p on
+--     next_yes, _no, _bad, _first    what `next_row` gives, one law for each way that it goes
+--     next_got                       what is known of a next row that was read
+--     rows_none, _step, _stop        what `rows_at` gives, by its first row
+--     list_counted, _uncounted       what `list_at` gives, by its count
+--     Listing, list-…, next_found    i rows are read, and the rest of the list stands from p on
 --     Finding, find-…                the same in the loop that finds a list
 use mathlib.Core.Path.{◌≡◌, refl, sym, ap, ◌∙◌}
 use mathlib.Core.List.{List, [], ◌∷◌, ◌++◌, append-nil}
@@ -21,27 +21,27 @@ use Rattle.reader.specs.declared.ends.End.TheVariants.{Past}
 use Rattle.lists.specs.declared.list.ListRead.{ListRead}
 use Rattle.lists.specs.Order.{below}
 use Rattle.cells.specs.Rows.{push, row_at}
-use Rattle.lists.specs.Lists.{nextRow, rows_at, listAt}
+use Rattle.lists.specs.Lists.{next_row, rows_at, list_at}
 use Rattle.lists.specs.ListAnswers.{list_of}
 use Rattle.lists.specs.Keeping.{Found}
 use Rattle.lists.specs.Stages.{old_of}
-use Rattle.cells.proofs.RowLaws.{onward, onward-none, onward-push}
-use Rattle.cells.proofs.RowFits.{row-long}
+use Rattle.cells.proofs.RowLaws.{onward, onward_none, onward_push}
+use Rattle.cells.proofs.RowFits.{row_long}
 
 -- ---- the next row
 
 module _ (old : List ℕ) (cs : List Column) (s : List ℕ) (at : ℕ) where
-  pub next-yes : {r : List ℕ} {n : ℕ} → row_at cs s at ≡ got r n → true ≡ below old r → nextRow old cs s at ≡ got r n
-  unfolding nextRow
-  next-yes e h = rw e (rw (sym h))
+  pub next_yes : {r : List ℕ} {n : ℕ} → row_at cs s at ≡ got r n → true ≡ below old r → next_row old cs s at ≡ got r n
+  unfolding next_row
+  next_yes e h = rw e (rw (sym h))
 
-  pub next-no : {r : List ℕ} {n : ℕ} → row_at cs s at ≡ got r n → false ≡ below old r → nextRow old cs s at ≡ bad (NotAbove at)
-  unfolding nextRow
-  next-no e h = rw e (rw (sym h))
+  pub next_no : {r : List ℕ} {n : ℕ} → row_at cs s at ≡ got r n → false ≡ below old r → next_row old cs s at ≡ bad (NotAbove at)
+  unfolding next_row
+  next_no e h = rw e (rw (sym h))
 
-  pub next-bad : {x : Refusal} → row_at cs s at ≡ bad x → nextRow old cs s at ≡ bad x
-  unfolding nextRow
-  next-bad e = rw e
+  pub next_bad : {x : Refusal} → row_at cs s at ≡ bad x → next_row old cs s at ≡ bad x
+  unfolding next_row
+  next_bad e = rw e
 
   taken : (t : Bool) (r l : List ℕ) (m n : ℕ) → below old r ≡ t → pick t (got r m) (bad (NotAbove at)) ≡ got l n
       → (got r m ≡ got l n) × (below old l ≡ true)
@@ -49,9 +49,9 @@ module _ (old : List ℕ) (cs : List Column) (s : List ℕ) (at : ℕ) where
   taken false r l m n b e = never (cc)
 
   -- a next row that was read is a row, and above the one before
-  pub next-got : (r : List ℕ) (n : ℕ) → nextRow old cs s at ≡ got r n → (row_at cs s at ≡ got r n) × (below old r ≡ true)
-  unfolding nextRow
-  next-got r n e =
+  pub next_got : (r : List ℕ) (n : ℕ) → next_row old cs s at ≡ got r n → (row_at cs s at ≡ got r n) × (below old r ≡ true)
+  unfolding next_row
+  next_got r n e =
       let p = parts (row_at cs s at) _ r n e in
       let q = taken (below old p.first) p.first r p.place n refl p.rest in
       (p.was ∙ q.0, q.1)
@@ -62,43 +62,43 @@ below_none [] e = absurd (omega arith)
 below_none (x ∷ r) e = refl
 
 -- the row before row i
-old-none : (i : ℕ) (old : List ℕ) → i ≡ 0 → old_of i old ≡ []
-old-none zero old e = refl
-old-none (suc i) old e = absurd (omega arith)
+old_none : (i : ℕ) (old : List ℕ) → i ≡ 0 → old_of i old ≡ []
+old_none zero old e = refl
+old_none (suc i) old e = absurd (omega arith)
 
-pub old-some : (i : ℕ) (old : List ℕ) → (i ≡ 0 → ⊥) → old_of i old ≡ old
-old-some zero old n = absurd (n refl)
-old-some (suc i) old n = refl
+pub old_some : (i : ℕ) (old : List ℕ) → (i ≡ 0 → ⊥) → old_of i old ≡ old
+old_some zero old n = absurd (n refl)
+old_some (suc i) old n = refl
 
 -- row 0 is above none
-pub next-first : (i : ℕ) (old : List ℕ) (cs : List Column) (s : List ℕ) (at : ℕ) {r : List ℕ} {n : ℕ}
-    → length cs ≡ 5 → i ≡ 0 → row_at cs s at ≡ got r n → nextRow (old_of i old) cs s at ≡ got r n
-next-first i old cs s at {r} {n} five z e =
-    rw (old-none i old z) (next-yes [] cs s at e (below_none r (row-long cs s at r n e ∙ five)))
+pub next_first : (i : ℕ) (old : List ℕ) (cs : List Column) (s : List ℕ) (at : ℕ) {r : List ℕ} {n : ℕ}
+    → length cs ≡ 5 → i ≡ 0 → row_at cs s at ≡ got r n → next_row (old_of i old) cs s at ≡ got r n
+next_first i old cs s at {r} {n} five z e =
+    rw (old_none i old z) (next_yes [] cs s at e (below_none r (row_long cs s at r n e ∙ five)))
 
 -- ---- the loop over the rows
 
 module _ (k : ℕ) (old : List ℕ) (cs : List Column) (s : List ℕ) (at : ℕ) where
-  pub rows_step : {r : List ℕ} {n : ℕ} → nextRow old cs s at ≡ got r n → rows_at (suc k) old cs s at ≡ push r (rows_at k r cs s n)
+  pub rows_step : {r : List ℕ} {n : ℕ} → next_row old cs s at ≡ got r n → rows_at (suc k) old cs s at ≡ push r (rows_at k r cs s n)
   unfolding rows_at
   rows_step e = rw e
 
-  pub rows-stop : {x : Refusal} → nextRow old cs s at ≡ bad x → rows_at (suc k) old cs s at ≡ bad x
+  pub rows_stop : {x : Refusal} → next_row old cs s at ≡ bad x → rows_at (suc k) old cs s at ≡ bad x
   unfolding rows_at
-  rows-stop e = rw e
+  rows_stop e = rw e
 
-  rows-first : Found (rows_at (suc k) old cs s at) → (r : List ℕ) × (n : ℕ) × (nextRow old cs s at ≡ got r n)
+  rows_first : Found (rows_at (suc k) old cs s at) → (r : List ℕ) × (n : ℕ) × (next_row old cs s at ≡ got r n)
   unfolding rows_at
-  rows-first (rs, m, e) = let p = parts (nextRow old cs s at) _ rs m e in (p.first, p.place, p.was)
+  rows_first (rs, m, e) = let p = parts (next_row old cs s at) _ rs m e in (p.first, p.place, p.was)
 
 pub rows_none : (old : List ℕ) (cs : List Column) (s : List ℕ) (at : ℕ) → rows_at 0 old cs s at ≡ got [] at
 unfolding rows_at
 rows_none old cs s at = refl
 
 -- what is in front of a list that was found takes nothing from it
-onward-found : (xs : List (List ℕ)) (o : Out (List (List ℕ))) → Found (onward xs o) → Found o
-onward-found xs (got ys n) f = (ys, n, refl)
-onward-found xs (bad r) (rs, m, e) = never (cc)
+onward_found : (xs : List (List ℕ)) (o : Out (List (List ℕ))) → Found (onward xs o) → Found o
+onward_found xs (got ys n) f = (ys, n, refl)
+onward_found xs (bad r) (rs, m, e) = never (cc)
 
 -- the rows `done` are read, and the rest of the list stands from p on, after the row `old`
 pub record Listing (count : ℕ) (cs : List Column) (s : List ℕ) (at : ℕ) (done : List (List ℕ)) (old : List ℕ) (p i : ℕ) : Type 0 where
@@ -107,30 +107,30 @@ pub record Listing (count : ℕ) (cs : List Column) (s : List ℕ) (at : ℕ) (d
   pub same : rows_at count [] cs s at ≡ onward done (rows_at (count - i) old cs s p)
 
 module _ {count : ℕ} {cs : List Column} {s : List ℕ} {at : ℕ} where
-  pub list-start : Listing count cs s at [] [] at 0
-  list-start = record { many = refl; up = omega arith; same = rw (sub-zero count) (onward-none (rows_at count [] cs s at)) }
+  pub list_start : Listing count cs s at [] [] at 0
+  list_start = record { many = refl; up = omega arith; same = rw (sub-zero count) (onward_none (rows_at count [] cs s at)) }
 
   module _ {done : List (List ℕ)} {old : List ℕ} {p i : ℕ} (f : Listing count cs s at done old p i) where
     module _ (h : i < count) where
       left : count - i ≡ suc (count - (i + 1))
       left = omega arith
 
-      pub list-more : {r : List ℕ} {n : ℕ} → nextRow old cs s p ≡ got r n → Listing count cs s at (done ++ (r ∷ [])) r n (i + 1)
-      list-more {r} {n} e =
+      pub list_more : {r : List ℕ} {n : ℕ} → next_row old cs s p ≡ got r n → Listing count cs s at (done ++ (r ∷ [])) r n (i + 1)
+      list_more {r} {n} e =
           record {
             many = length-append done (r ∷ []) ∙ ap (λ (m : ℕ). m + 1) f.many;
             up = omega arith;
-            same = f.same ∙ rw (left, rows_step (count - (i + 1)) old cs s p e) (onward-push done r (rows_at (count - (i + 1)) r cs s n));
+            same = f.same ∙ rw (left, rows_step (count - (i + 1)) old cs s p e) (onward_push done r (rows_at (count - (i + 1)) r cs s n));
           }
 
-      list-stop : {x : Refusal} → nextRow old cs s p ≡ bad x → rows_at count [] cs s at ≡ bad x
-      list-stop e = f.same ∙ rw (left, rows-stop (count - (i + 1)) old cs s p e)
+      list_stop : {x : Refusal} → next_row old cs s p ≡ bad x → rows_at count [] cs s at ≡ bad x
+      list_stop e = f.same ∙ rw (left, rows_stop (count - (i + 1)) old cs s p e)
 
       -- where the whole list is found, so is its next row
-      pub next-found : Found (rows_at count [] cs s at) → (r : List ℕ) × (n : ℕ) × (nextRow old cs s p ≡ got r n)
-      next-found w =
-          let rest : Found (rows_at (count - i) old cs s p) = onward-found done _ (rw f.same at w) in
-          rows-first (count - (i + 1)) old cs s p (rw left at rest)
+      pub next_found : Found (rows_at count [] cs s at) → (r : List ℕ) × (n : ℕ) × (next_row old cs s p ≡ got r n)
+      next_found w =
+          let rest : Found (rows_at (count - i) old cs s p) = onward_found done _ (rw f.same at w) in
+          rows_first (count - (i + 1)) old cs s p (rw left at rest)
 
     pub list_all : count ≤ i → rows_at count [] cs s at ≡ got done p
     list_all h =
@@ -144,30 +144,30 @@ pub record Finding (count : ℕ) (cs : List Column) (s : List ℕ) (at : ℕ) (o
   pub listing : Listing count cs s at done (old_of i old) p i
 
 module _ {count : ℕ} {cs : List Column} {s : List ℕ} {at : ℕ} where
-  pub find-start : {old : List ℕ} → Finding count cs s at old at 0
-  find-start = record { done = []; listing = list-start }
+  pub find_start : {old : List ℕ} → Finding count cs s at old at 0
+  find_start = record { done = []; listing = list_start }
 
   module _ {old : List ℕ} {p i : ℕ} (f : Finding count cs s at old p i) where
-    pub find-more : i < count → {r : List ℕ} {n : ℕ} → nextRow (old_of i old) cs s p ≡ got r n → Finding count cs s at r n (i + 1)
-    find-more h {r} e =
-        record { done = f.done ++ (r ∷ []); listing = rw (old-some (i + 1) r (λ z. omega arith)) (list-more f.listing h e) }
+    pub find_more : i < count → {r : List ℕ} {n : ℕ} → next_row (old_of i old) cs s p ≡ got r n → Finding count cs s at r n (i + 1)
+    find_more h {r} e =
+        record { done = f.done ++ (r ∷ []); listing = rw (old_some (i + 1) r (λ z. omega arith)) (list_more f.listing h e) }
 
-    pub find-bad : i < count → {x : Refusal} {a : ListRead} → nextRow (old_of i old) cs s p ≡ bad x → a ≡ list_of (bad x)
+    pub find_bad : i < count → {x : Refusal} {a : ListRead} → next_row (old_of i old) cs s p ≡ bad x → a ≡ list_of (bad x)
         → a ≡ list_of (rows_at count [] cs s at)
-    find-bad h e q = rw (list-stop f.listing h e) q
+    find_bad h e q = rw (list_stop f.listing h e) q
 
-    pub find-end : count ≤ i → record { count = count; end = Past p } ≡ list_of (rows_at count [] cs s at)
-    find-end h =
+    pub find_end : count ≤ i → record { count = count; end = Past p } ≡ list_of (rows_at count [] cs s at)
+    find_end h =
         let all : length f.done ≡ count = omega (arith, f.listing.many, f.listing.up) in
         rw (list_all f.listing h) (rw all)
 
 -- ---- the count
 
 module _ (most : ℕ) (cs : List Column) (s : List ℕ) (at : ℕ) where
-  pub list_counted : {k n : ℕ} → field_at s at 0 (most + 1) ≡ got k n → listAt most cs s at ≡ rows_at k [] cs s n
-  unfolding listAt
+  pub list_counted : {k n : ℕ} → field_at s at 0 (most + 1) ≡ got k n → list_at most cs s at ≡ rows_at k [] cs s n
+  unfolding list_at
   list_counted e = rw e
 
-  pub list-uncounted : {x : Refusal} → field_at s at 0 (most + 1) ≡ bad x → listAt most cs s at ≡ bad x
-  unfolding listAt
-  list-uncounted e = rw e
+  pub list_uncounted : {x : Refusal} → field_at s at 0 (most + 1) ≡ bad x → list_at most cs s at ≡ bad x
+  unfolding list_at
+  list_uncounted e = rw e

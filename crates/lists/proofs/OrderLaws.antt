@@ -1,5 +1,5 @@
 -- Laws of the order of rows, and the invariant of the loop that compares two.
---     below_less, -more, -same    two rows are compared at their first numbers, and at the rest where these are equal
+--     below_less, _more, _same    two rows are compared at their first numbers, and at the rest where these are equal
 --     Equal, equal-…              two rows are equal up to cell j, and compared by what is left
 use mathlib.Core.Path.{◌≡◌, refl, sym, ap, ap₂, ◌∙◌}
 use mathlib.Core.List.{List, [], ◌∷◌}
@@ -20,13 +20,13 @@ pub below_more : (a b : ℕ) (l m : List ℕ) → b < a → below (a ∷ l) (b �
 unfolding below
 below_more a b l m h = simp (ne_eqb a b (λ e. omega arith), le-ltb a b (omega arith))
 
-below-same : (a b : ℕ) (l m : List ℕ) → a ≡ b → below (a ∷ l) (b ∷ m) ≡ below l m
+below_same : (a b : ℕ) (l m : List ℕ) → a ≡ b → below (a ∷ l) (b ∷ m) ≡ below l m
 unfolding below
-below-same a b l m h = simp (eq-eqb a b h)
+below_same a b l m h = simp (eq-eqb a b h)
 
-below-nil : (l : List ℕ) → below l [] ≡ false
+below_nil : (l : List ℕ) → below l [] ≡ false
 unfolding below
-below-nil l = refl
+below_nil l = refl
 
 -- ---- the loop over the cells
 
@@ -37,30 +37,30 @@ pub record Equal (old new : List ℕ) (j : ℕ) : Type 0 where
   pub same : below old new ≡ below (drop j old) (drop j new)
 
 module _ {old new : List ℕ} where
-  pub equal-none : length old ≡ 5 → length new ≡ 5 → Equal old new 0
-  equal-none five five' = record { five = five; five' = five'; up = omega arith; same = refl }
+  pub equal_none : length old ≡ 5 → length new ≡ 5 → Equal old new 0
+  equal_none five five' = record { five = five; five' = five'; up = omega arith; same = refl }
 
   module _ {j : ℕ} (e : Equal old new j) where
     module _ (h : j < 5) where
       heads : below old new ≡ below (get_or old j 0 ∷ drop (suc j) old) (get_or new j 0 ∷ drop (suc j) new)
       heads = e.same ∙ ap₂ below (drop-cons old j 0 (omega (arith, e.five))) (drop-cons new j 0 (omega (arith, e.five')))
 
-      pub equal-less : get_or old j 0 < get_or new j 0 → true ≡ below old new
-      equal-less l = sym (heads ∙ below_less _ _ _ _ l)
+      pub equal_less : get_or old j 0 < get_or new j 0 → true ≡ below old new
+      equal_less l = sym (heads ∙ below_less _ _ _ _ l)
 
-      pub equal-more : get_or new j 0 < get_or old j 0 → false ≡ below old new
-      equal-more l = sym (heads ∙ below_more _ _ _ _ l)
+      pub equal_more : get_or new j 0 < get_or old j 0 → false ≡ below old new
+      equal_more l = sym (heads ∙ below_more _ _ _ _ l)
 
-      pub equal-again : get_or new j 0 ≤ get_or old j 0 → get_or old j 0 ≤ get_or new j 0 → Equal old new (j + 1)
-      equal-again l m =
+      pub equal_again : get_or new j 0 ≤ get_or old j 0 → get_or old j 0 ≤ get_or new j 0 → Equal old new (j + 1)
+      equal_again l m =
           record {
             five = e.five;
             five' = e.five';
             up = omega arith;
-            same = heads ∙ below-same _ _ _ _ (omega arith) ∙ rw (add-one j);
+            same = heads ∙ below_same _ _ _ _ (omega arith) ∙ rw (add-one j);
           }
 
-    pub equal-all : 5 ≤ j → false ≡ below old new
-    equal-all h =
+    pub equal_all : 5 ≤ j → false ≡ below old new
+    equal_all h =
         let last : j ≡ length new = omega (arith, e.five', e.up) in
-        sym (e.same ∙ ap (below (drop j old)) (rw last (drop-length new)) ∙ below-nil _)
+        sym (e.same ∙ ap (below (drop j old)) (rw last (drop-length new)) ∙ below_nil _)

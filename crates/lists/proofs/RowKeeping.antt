@@ -1,7 +1,7 @@
 -- A cell and a row that were found are kept.
---     byte-here, -read, -past    a number that was found and fits a byte: its first byte is there and is the number, and it ends within the bytes
---     cell-found, -kept          the number at the place of a cell that was found is the cell, and fits a byte: to keep it is to keep the cell
---     absent-kept                the cell of a column that is not there is 0
+--     byte_here, _read, _past    a number that was found and fits a byte: its first byte is there and is the number, and it ends within the bytes
+--     cell_found, _kept          the number at the place of a cell that was found is the cell, and fits a byte: to keep it is to keep the cell
+--     absent_kept                the cell of a column that is not there is 0
 --     Midway, mid-…              j cells of the row stand in memory, and the rest of the row stands from p on
 -- Since the whole row is found, so is each of its cells.
 use mathlib.Core.Path.{◌≡◌, refl, sym, ap, ◌∙◌}
@@ -12,17 +12,17 @@ use native.Mathlib.Numerals.{add-one}
 use lib.ListN.{length, get_or, set, drop, length-append}
 use lib.Seq.{sets, length-sets, drop-length}
 use Rattle.numbers.specs.declared.reading.Read.TheVariants.{Value}
-use Rattle.numbers.specs.Reading.{got, numberAt, field_at, read_of}
-use Rattle.numbers.proofs.ReadingLaws.{parts, read-got}
-use Rattle.numbers.proofs.NumberLaws.{Accepted, ended, more, accepted-one, number-accepted, number_past}
-use Rattle.numbers.proofs.PutLaws.{sets-append}
-use Rattle.reader.specs.Ranges.{rangedOf}
-use Rattle.reader.proofs.RangeLaws.{ranged-field, ranged-got}
+use Rattle.numbers.specs.Reading.{got, number_at, field_at, read_of}
+use Rattle.numbers.proofs.ReadingLaws.{parts, read_got}
+use Rattle.numbers.proofs.NumberLaws.{Accepted, ended, more, accepted_one, number_accepted, number_past}
+use Rattle.numbers.proofs.PutLaws.{sets_append}
+use Rattle.reader.specs.Ranges.{ranged_of}
+use Rattle.reader.proofs.RangeLaws.{ranged_field, ranged_got}
 use Rattle.cells.specs.declared.columns.Column.{Column}
 use Rattle.cells.specs.declared.columns.Column.TheVariants.{Within, Below, Absent}
 use Rattle.cells.specs.Rows.{cell_at, row_at}
-use Rattle.cells.specs.Stages.{columnAt}
-use Rattle.cells.proofs.RowLaws.{onward, onward-none, onward-push, row_step, row-none, drop-column}
+use Rattle.cells.specs.Stages.{column_at}
+use Rattle.cells.proofs.RowLaws.{onward, onward_none, onward_push, row_step, row_none, drop_column}
 use Rattle.cells.proofs.RowFits.{pushed}
 use Rattle.lists.specs.Keeping.{Found, FoundByte, CellKept, RowKept}
 
@@ -31,29 +31,29 @@ use Rattle.lists.specs.Keeping.{Found, FoundByte, CellKept, RowKept}
 module _ {s : List ℕ} where
   one_byte : {left at v n : ℕ} → Accepted s left 1 at v n → v < 128 → n ≡ at + 1
   one_byte (ended h l z e m) f = m
-  one_byte (more w h l e a) f = absurd (omega (arith, accepted-one s a))
+  one_byte (more w h l e a) f = absurd (omega (arith, accepted_one s a))
 
   first_byte : {left least at v n : ℕ} → Accepted s left least at v n → v < 256 → get_or s at 0 < 256
       → (v ≡ get_or s at 0) × (n ≡ at + 1 + get_or s at 0 / 128)
   first_byte (ended h l z e m) f b = (e, omega arith)
   first_byte (more w h l e a) f b =
-      let one : w ≡ 1 = omega (arith, accepted-one s a) in
+      let one : w ≡ 1 = omega (arith, accepted_one s a) in
       (omega arith, omega (arith, one_byte a (omega arith)))
 
 -- a number that fits a byte is its first byte, and has a second where that is at least 128
-module _ (s : List ℕ) (at : ℕ) (f : FoundByte (numberAt s at)) where
-  pub byte-here : at < length s
-  byte-here = let (v, n, e, h) = f in omega (arith, number_past s at v n e)
+module _ (s : List ℕ) (at : ℕ) (f : FoundByte (number_at s at)) where
+  pub byte_here : at < length s
+  byte_here = let (v, n, e, h) = f in omega (arith, number_past s at v n e)
 
   module _ (b : get_or s at 0 < 256) where
-    pub byte-read : numberAt s at ≡ got (get_or s at 0) (at + 1 + get_or s at 0 / 128)
-    byte-read =
+    pub byte_read : number_at s at ≡ got (get_or s at 0) (at + 1 + get_or s at 0 / 128)
+    byte_read =
         let (v, n, e, h) = f in
-        let k = first_byte (number-accepted s at v n e) h b in
+        let k = first_byte (number_accepted s at v n e) h b in
         rw (← k.1, ← k.0) e
 
     pub byte_past : at + 1 + get_or s at 0 / 128 ≤ length s
-    byte_past = omega (arith, number_past s at _ _ byte-read)
+    byte_past = omega (arith, number_past s at _ _ byte_read)
 
 -- ---- a cell
 
@@ -64,37 +64,37 @@ OfBytes (Below end) = end < 256
 OfBytes Absent = ⊥
 
 module _ (s : List ℕ) (at : ℕ) where
-  field-number : (low end v n : ℕ) → field_at s at low end ≡ got v n → (numberAt s at ≡ got v n) × (v < end)
-  field-number low end v n e =
-      let read = read_of (numberAt s at) in
-      let taken : Value v n ≡ rangedOf at low end read = sym (ranged-field at low end s ∙ ap read_of e) in
-      let k = ranged-got at low end read v n taken in
-      (read-got (numberAt s at) v n (sym k.0), k.1)
+  field_number : (low end v n : ℕ) → field_at s at low end ≡ got v n → (number_at s at ≡ got v n) × (v < end)
+  field_number low end v n e =
+      let read = read_of (number_at s at) in
+      let taken : Value v n ≡ ranged_of at low end read = sym (ranged_field at low end s ∙ ap read_of e) in
+      let k = ranged_got at low end read v n taken in
+      (read_got (number_at s at) v n (sym k.0), k.1)
 
-  cell-number : (c : Column) (v n : ℕ) → OfBytes c → cell_at c s at ≡ got v n → (numberAt s at ≡ got v n) × (v < 256)
+  cell_number : (c : Column) (v n : ℕ) → OfBytes c → cell_at c s at ≡ got v n → (number_at s at ≡ got v n) × (v < 256)
   unfolding cell_at
-  cell-number (Within low most) v n h e = let k = field-number low (most + 1) v n e in (k.0, omega (arith, k.1))
-  cell-number (Below end) v n h e = let k = field-number 0 end v n e in (k.0, omega (arith, k.1))
-  cell-number Absent v n h e = absurd h
+  cell_number (Within low most) v n h e = let k = field_number low (most + 1) v n e in (k.0, omega (arith, k.1))
+  cell_number (Below end) v n h e = let k = field_number 0 end v n e in (k.0, omega (arith, k.1))
+  cell_number Absent v n h e = absurd h
 
-  pub cell-found : (c : Column) → OfBytes c → Found (cell_at c s at) → FoundByte (numberAt s at)
-  cell-found c h (v, n, e) = let k = cell-number c v n h e in (v, n, k.0, k.1)
+  pub cell_found : (c : Column) → OfBytes c → Found (cell_at c s at) → FoundByte (number_at s at)
+  cell_found c h (v, n, e) = let k = cell_number c v n h e in (v, n, k.0, k.1)
 
-  pub cell-kept : (c : Column) → OfBytes c → Found (cell_at c s at) → {to : ℕ} {d d' : List ℕ} {r : ℕ}
-      → CellKept (numberAt s at) to d d' r → CellKept (cell_at c s at) to d d' r
-  cell-kept c h (v, n, e) k =
-      record { value = k.value; was = e ∙ sym (cell-number c v n h e).0 ∙ k.was; held = k.held }
+  pub cell_kept : (c : Column) → OfBytes c → Found (cell_at c s at) → {to : ℕ} {d d' : List ℕ} {r : ℕ}
+      → CellKept (number_at s at) to d d' r → CellKept (cell_at c s at) to d d' r
+  cell_kept c h (v, n, e) k =
+      record { value = k.value; was = e ∙ sym (cell_number c v n h e).0 ∙ k.was; held = k.held }
 
-  pub absent-kept : {c : Column} → c ≡ Absent → {to : ℕ} {d : List ℕ} → CellKept (cell_at c s at) to d (set d to 0) at
+  pub absent_kept : {c : Column} → c ≡ Absent → {to : ℕ} {d : List ℕ} → CellKept (cell_at c s at) to d (set d to 0) at
   unfolding cell_at
-  absent-kept q = record { value = 0; was = rw q; held = refl }
+  absent_kept q = record { value = 0; was = rw q; held = refl }
 
 -- ---- a row
 
-row-found : (c : Column) (cs : List Column) (s : List ℕ) (p : ℕ) → Found (row_at (c ∷ cs) s p)
+row_found : (c : Column) (cs : List Column) (s : List ℕ) (p : ℕ) → Found (row_at (c ∷ cs) s p)
     → (v : ℕ) × (n : ℕ) × (cell_at c s p ≡ got v n) × Found (row_at cs s n)
 unfolding row_at
-row-found c cs s p (r, m, e) =
+row_found c cs s p (r, m, e) =
     let k = parts (cell_at c s p) _ r m e in
     let q = pushed k.first (row_at cs s k.place) r m k.rest in
     (k.first, k.place, k.was, (q.rest, m, q.was))
@@ -109,27 +109,27 @@ pub record Midway (cs : List Column) (s : List ℕ) (at base : ℕ) (d₀ d : Li
 
 module _ {cs : List Column} {s : List ℕ} {at base : ℕ} {d₀ : List ℕ} where
   pub mid_start : length cs ≡ 5 → Found (row_at cs s at) → Midway cs s at base d₀ d₀ at 0
-  mid_start five f = record { five = five; done = []; many = refl; found = f; same = onward-none _; held = refl }
+  mid_start five f = record { five = five; done = []; many = refl; found = f; same = onward_none _; held = refl }
 
   module _ {d : List ℕ} {p j : ℕ} (m : Midway cs s at base d₀ d p j) where
-    pub mid-long : length d ≡ length d₀
-    mid-long = ap length m.held ∙ length-sets d₀ base m.done
+    pub mid_long : length d ≡ length d₀
+    mid_long = ap length m.held ∙ length-sets d₀ base m.done
 
     module _ (h : j < 5) where
-      next-column : drop j cs ≡ columnAt cs j ∷ drop (suc j) cs
-      next-column = drop-column cs j (omega (arith, m.five))
+      next_column : drop j cs ≡ column_at cs j ∷ drop (suc j) cs
+      next_column = drop_column cs j (omega (arith, m.five))
 
-      next-found : (v : ℕ) × (n : ℕ) × (cell_at (columnAt cs j) s p ≡ got v n) × Found (row_at (drop (suc j) cs) s n)
-      next-found = row-found (columnAt cs j) (drop (suc j) cs) s p (rw next-column at m.found)
+      next_found : (v : ℕ) × (n : ℕ) × (cell_at (column_at cs j) s p ≡ got v n) × Found (row_at (drop (suc j) cs) s n)
+      next_found = row_found (column_at cs j) (drop (suc j) cs) s p (rw next_column at m.found)
 
-      pub mid-cell : Found (cell_at (columnAt cs j) s p)
-      mid-cell = let k = next-found in (k.0, k.1, k.2)
+      pub mid_cell : Found (cell_at (column_at cs j) s p)
+      mid_cell = let k = next_found in (k.0, k.1, k.2)
 
-      pub mid-more : {to : ℕ} {d' : List ℕ} {n : ℕ} → to ≡ base + j → CellKept (cell_at (columnAt cs j) s p) to d d' n
+      pub mid_more : {to : ℕ} {d' : List ℕ} {n : ℕ} → to ≡ base + j → CellKept (cell_at (column_at cs j) s p) to d d' n
           → Midway cs s at base d₀ d' n (j + 1)
-      mid-more {to} {d'} {n} place k =
-          let c = columnAt cs j in
-          let (v, n', e, f) = next-found in
+      mid_more {to} {d'} {n} place k =
+          let c = column_at cs j in
+          let (v, n', e, f) = next_found in
           let there : n' ≡ n = cc in
           let v = k.value in
           record {
@@ -137,11 +137,11 @@ module _ {cs : List Column} {s : List ℕ} {at base : ℕ} {d₀ : List ℕ} whe
             done = m.done ++ (v ∷ []);
             many = length-append m.done (v ∷ []) ∙ ap (λ (i : ℕ). i + 1) m.many;
             found = rw (add-one j, ← there) f;
-            same = m.same ∙ rw (next-column, row_step c _ _ _ k.was, add-one j) (onward-push m.done v (row_at (drop (suc j) cs) s n));
-            held = k.held ∙ rw (place, m.held, ← m.many) (sets-append m.done (v ∷ []) d₀ base);
+            same = m.same ∙ rw (next_column, row_step c _ _ _ k.was, add-one j) (onward_push m.done v (row_at (drop (suc j) cs) s n));
+            held = k.held ∙ rw (place, m.held, ← m.many) (sets_append m.done (v ∷ []) d₀ base);
           }
 
-  pub mid-end : {d : List ℕ} {p : ℕ} → Midway cs s at base d₀ d p 5 → RowKept (row_at cs s at) base d₀ d p
-  mid-end {d} {p} m =
+  pub mid_end : {d : List ℕ} {p : ℕ} → Midway cs s at base d₀ d p 5 → RowKept (row_at cs s at) base d₀ d p
+  mid_end {d} {p} m =
       let last : drop 5 cs ≡ [] = rw (← m.five) (drop-length cs) in
-      record { cells = m.done; was = m.same ∙ rw (last, row-none, append-nil); held = m.held }
+      record { cells = m.done; was = m.same ∙ rw (last, row_none, append-nil); held = m.held }

@@ -10,11 +10,11 @@ use Rattle.lists.proofs.list.find_list.Kinds as find-list-kinds
 use Rattle.lists.proofs.list.keep_list.Reads as keep-list
 use Rattle.lists.proofs.list.keep_list.Kinds as keep-list-kinds
 
-pub find-list-fixes : Fixes find-list-kinds.ps find-list-kinds.r find-list.Post
-find-list-fixes κs a x x' s s' = same
+pub find_list_fixes : Fixes find-list-kinds.ps find-list-kinds.r find-list.Post
+find_list_fixes κs a x x' s s' = same
 
 -- every byte of the memory
-pub keep-list-fixes : (κs : Lfts 2) (a : Dens κs keep-list-kinds.ps) (x x' : (res_t keep-list-kinds.r κs).Denot)
+pub keep_list_fixes : (κs : Lfts 2) (a : Dens κs keep-list-kinds.ps) (x x' : (res_t keep-list-kinds.r κs).Denot)
     (s s' : AtExit (ended_of 2 keep-list-kinds.ps keep-list-kinds.r) κs)
     → keep-list.Post κs a x s → keep-list.Post κs a x' s' → s.1.1.1.1.0.now ≡ s'.1.1.1.1.0.now
-keep-list-fixes κs a x x' s s' = same
+keep_list_fixes κs a x x' s s' = same

@@ -26,6 +26,6 @@ pub record RowKept (o : Out (List ℕ)) (base : ℕ) (d d' : List ℕ) (past : �
   pub held : d' ≡ sets d base cells
 
 -- what a list's memory d holds afterwards: its rows from the start on; a refusal changes nothing
-abbrev pub listHeld : Out (List (List ℕ)) → List ℕ → List ℕ
-listHeld (got rs next) d = sets d 0 (flat rs)
-listHeld (bad r) d = d
+abbrev pub list_held : Out (List (List ℕ)) → List ℕ → List ℕ
+list_held (got rs next) d = sets d 0 (flat rs)
+list_held (bad r) d = d

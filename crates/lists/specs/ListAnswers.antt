@@ -6,11 +6,11 @@ use Rattle.reader.specs.declared.ends.End.TheVariants.{Past, Refused}
 use Rattle.reader.specs.Ends.{after}
 use Rattle.cells.specs.declared.columns.Column.{Column}
 use Rattle.lists.specs.declared.list.ListRead.{ListRead}
-use Rattle.lists.specs.Lists.{listAt}
+use Rattle.lists.specs.Lists.{list_at}
 
 abbrev pub list_of : Out (List (List ℕ)) → ListRead
 list_of (got rs next) = record { count = length rs; end = Past next }
 list_of (bad x) = record { count = 0; end = Refused x }
 
-abbrev pub listAfter : End → ℕ → List Column → List ℕ → Out (List (List ℕ))
-listAfter e most cs s = after e (listAt most cs s)
+abbrev pub list_after : End → ℕ → List Column → List ℕ → Out (List (List ℕ))
+list_after e most cs s = after e (list_at most cs s)

@@ -1,12 +1,12 @@
 // Lists of rows: one reader for the four lists. A list is found first, with nothing stored, and then kept in memory.
 ghost use Rattle.std.specs.Prelude.{◌≡◌, [], ◌+◌, ◌*◌, ◌≤◌, ◌<◌, length};
-ghost use Rattle.numbers.specs.Reading.{bad, numberAt};
+ghost use Rattle.numbers.specs.Reading.{bad, number_at};
 ghost use Rattle.cells.specs.Rows.{cell_at, row_at};
-ghost use Rattle.cells.specs.Answers.{rowReadOf};
+ghost use Rattle.cells.specs.Answers.{row_read_of};
 ghost use Rattle.lists.specs.Order.{below};
-ghost use Rattle.lists.specs.Lists.{nextRow, rows_at, listAt};
-ghost use Rattle.lists.specs.ListAnswers.{list_of, listAfter};
-ghost use Rattle.lists.specs.Keeping.{Found, FoundByte, CellKept, RowKept, listHeld};
+ghost use Rattle.lists.specs.Lists.{next_row, rows_at, list_at};
+ghost use Rattle.lists.specs.ListAnswers.{list_of, list_after};
+ghost use Rattle.lists.specs.Keeping.{Found, FoundByte, CellKept, RowKept, list_held};
 ghost use Rattle.lists.specs.Stages.{old_of};
 
 use cells::columns::Column;
@@ -53,7 +53,7 @@ fn above(old: [u8; 5], new: [u8; 5]) -> bool
 
 // Row i, which is to be above the one before it, `old`; row 0 has none before it.
 fn next_row(src: &[u8], at: usize, columns: [Column; 5], i: usize, old: [u8; 5]) -> RowRead
-    ensures { result ≡ rowReadOf (nextRow (old_of i old) columns src.now at) }
+    ensures { result ≡ row_read_of (next_row (old_of i old) columns src.now at) }
 {
     let read = row(src, at, columns);
     let cells = read.cells;
@@ -110,7 +110,7 @@ fn find_rows(src: &[u8], at: usize, count: usize, columns: [Column; 5]) -> ListR
 
 // The list of at most `most` rows at `at`: the count, then the rows.
 fn find_at(src: &[u8], at: usize, most: u16, columns: [Column; 5]) -> ListRead
-    ensures { result ≡ list_of (listAt most columns src.now at) }
+    ensures { result ≡ list_of (list_at most columns src.now at) }
 {
     match reader::fields::field(src, at, 0, most as u32 + 1) {
         Read::Value { value, next } => find_rows(src, next, value as usize, columns),
@@ -120,7 +120,7 @@ fn find_at(src: &[u8], at: usize, most: u16, columns: [Column; 5]) -> ListRead
 
 // The list of at most `most` rows after a part of the file: where that was refused, so is the list.
 pub fn find_list(src: &[u8], before: End, most: u16, columns: [Column; 5]) -> ListRead
-    ensures { result ≡ list_of (listAfter before most columns src.now) }
+    ensures { result ≡ list_of (list_after before most columns src.now) }
 {
     match before {
         End::Past { next } => find_at(src, next, most, columns),
@@ -133,8 +133,8 @@ pub fn find_list(src: &[u8], before: End, most: u16, columns: [Column; 5]) -> Li
 // The number at `at`, which was found and fits a byte, into dst at `to`. Gives the place past it. Such a number is its first byte, and has a second one,
 // which is 1, where the first is at least 128.
 fn keep_number(src: &[u8], at: usize, dst: &mut [u8], to: usize) -> usize
-    requires { FoundByte (numberAt src.now at) × (to < length dst.old) }
-    ensures { CellKept (numberAt src.now at) to dst.old dst.new result }
+    requires { FoundByte (number_at src.now at) × (to < length dst.old) }
+    ensures { CellKept (number_at src.now at) to dst.old dst.new result }
 {
     let b = src[at];
     dst[to] = b;
@@ -175,7 +175,7 @@ fn keep_row(src: &[u8], at: usize, columns: [Column; 5], dst: &mut [u8], base: u
 // `count` rows from `at` on, which were found, into dst, five bytes a row. So no row is compared.
 fn keep_rows(src: &[u8], at: usize, count: usize, columns: [Column; 5], dst: &mut [u8])
     requires { Found (rows_at count [] columns src.now at) × (5 * count ≤ length dst.old) }
-    ensures { dst.new ≡ listHeld (rows_at count [] columns src.now at) dst.old }
+    ensures { dst.new ≡ list_held (rows_at count [] columns src.now at) dst.old }
 {
     let mut p = at;
     let mut i = 0;
@@ -187,8 +187,8 @@ fn keep_rows(src: &[u8], at: usize, count: usize, columns: [Column; 5], dst: &mu
 
 // The list of at most `most` rows at `at`, which was found, into dst.
 fn keep_at(src: &[u8], at: usize, most: u16, columns: [Column; 5], dst: &mut [u8])
-    requires { Found (listAt most columns src.now at) × (5 * most ≤ length dst.old) }
-    ensures { dst.new ≡ listHeld (listAt most columns src.now at) dst.old }
+    requires { Found (list_at most columns src.now at) × (5 * most ≤ length dst.old) }
+    ensures { dst.new ≡ list_held (list_at most columns src.now at) dst.old }
 {
     match reader::fields::field(src, at, 0, most as u32 + 1) {
         Read::Value { value, next } => keep_rows(src, next, value as usize, columns, dst),
@@ -198,8 +198,8 @@ fn keep_at(src: &[u8], at: usize, most: u16, columns: [Column; 5], dst: &mut [u8
 
 // The list after a part of the file, which was found, into dst: its rows from the start on, five bytes a row.
 pub fn keep_list(src: &[u8], before: End, most: u16, columns: [Column; 5], dst: &mut [u8])
-    requires { Found (listAfter before most columns src.now) × (5 * most ≤ length dst.old) }
-    ensures { dst.new ≡ listHeld (listAfter before most columns src.now) dst.old }
+    requires { Found (list_after before most columns src.now) × (5 * most ≤ length dst.old) }
+    ensures { dst.new ≡ list_held (list_after before most columns src.now) dst.old }
 {
     match before {
         End::Past { next } => keep_at(src, next, most, columns, dst),

@@ -11,24 +11,24 @@ use Rattle.model.specs.Errors.{ErrorState, Witness}
 use Rattle.model.specs.Verdict.{Verdict, safe, possible}
 use Rattle.model.specs.Memory.{Relations, Marked}
 use Rattle.model.specs.Claims.{accepted, Finds, whole}
-use Rattle.model.proofs.Monotone.{finding-cast}
-use Rattle.model.proofs.Least.{derives-closed-with-starts, least-allows}
-use Rattle.model.proofs.RunsAreHeld.{safe-runs}
-use Rattle.model.proofs.InRange.{derives-fits}
-use Rattle.model.proofs.Memory.{marked-in, in-marked}
+use Rattle.model.proofs.Monotone.{finding_cast}
+use Rattle.model.proofs.Least.{derives_closed_with_starts, least_allows}
+use Rattle.model.proofs.RunsAreHeld.{safe_runs}
+use Rattle.model.proofs.InRange.{derives_fits}
+use Rattle.model.proofs.Memory.{marked_in, in_marked}
 
 -- no run of the table meets an error state if a claim for it is accepted, or if the verdict on the least relations is safe
-pub accepted-runs : {T : Table} → Sound T → {S : Fact → Type 0} → Finds T S accepted → {s : State} → Run T s → ¬ ErrorState T s
-accepted-runs sound (whole c s) r = safe-runs sound c s r
+pub accepted_runs : {T : Table} → Sound T → {S : Fact → Type 0} → Finds T S accepted → {s : State} → Run T s → ¬ ErrorState T s
+accepted_runs sound (whole c s) r = safe_runs sound c s r
 
-pub safe-verdict-runs : {T : Table} → Sound T → Verdict T (Derives T) none → {s : State} → Run T s → ¬ ErrorState T s
-safe-verdict-runs {T} sound (safe s) r = safe-runs sound (derives-closed-with-starts T) s r
+pub safe_verdict_runs : {T : Table} → Sound T → Verdict T (Derives T) none → {s : State} → Run T s → ¬ ErrorState T s
+safe_verdict_runs {T} sound (safe s) r = safe_runs sound (derives_closed_with_starts T) s r
 
 -- if it is safe, the facts that a memory marks which holds the least relations are accepted
-pub safe-accepted : {T : Table} → Sound T → {mem : List ℕ} → Relations T mem → Verdict T (Derives T) none → Finds T (Marked T mem) accepted
-safe-accepted {T} sound h (safe s) =
-    finding-cast (λ f d. in-marked h f (derives-fits sound f d) d) (marked-in h) (whole (derives-closed-with-starts T) s)
+pub safe_accepted : {T : Table} → Sound T → {mem : List ℕ} → Relations T mem → Verdict T (Derives T) none → Finds T (Marked T mem) accepted
+safe_accepted {T} sound h (safe s) =
+    finding_cast (λ f d. in_marked h f (derives_fits sound f d) d) (marked_in h) (whole (derives_closed_with_starts T) s)
 
 -- if it is possible, no claim is
-pub possible-never-accepted : {T : Table} {w : Witness} → Verdict T (Derives T) (some w) → {S : Fact → Type 0} → ¬ Finds T S accepted
-possible-never-accepted (possible p) (whole c s) = s _ (least-allows c _ p.allowed)
+pub possible_never_accepted : {T : Table} {w : Witness} → Verdict T (Derives T) (some w) → {S : Fact → Type 0} → ¬ Finds T S accepted
+possible_never_accepted (possible p) (whole c s) = s _ (least_allows c _ p.allowed)

@@ -13,58 +13,58 @@ use Rattle.files.specs.Table.{Table, Sound, W}
 use Rattle.model.specs.Rules.{Fact, Starts, Closed}
 use Rattle.model.specs.Errors.{Witness}
 use Rattle.model.specs.Verdict.{SmallestWitness}
-use Rattle.model.specs.Positions.{Fits, pos, factAt}
+use Rattle.model.specs.Positions.{Fits, pos, fact_at}
 use Rattle.model.specs.Memory.{mark, Says, Holds, Marked}
 use Rattle.model.specs.Claims.{Claimed, First, LacksStart, Missing, AllowsRow}
-use Rattle.model.proofs.Monotone.{yields-mono}
-use Rattle.model.proofs.Positions.{pos-lt, factAt-pos, factAt-inj, factAt-stands}
-use Rattle.model.proofs.InRange.{fits-closed-with-starts}
-use Rattle.model.proofs.Memory.{says-cast}
-use Rattle.model.proofs.Order.{head-le}
+use Rattle.model.proofs.Monotone.{yields_mono}
+use Rattle.model.proofs.Positions.{pos_lt, fact_at_pos, fact_at_inj, fact_at_stands}
+use Rattle.model.proofs.InRange.{fits_closed_with_starts}
+use Rattle.model.proofs.Memory.{says_cast}
+use Rattle.model.proofs.Order.{head_le}
 
 -- ---- what a set lacks
 
 module _ {T : Table} (sound : Sound T) {S : Fact → Type 0} (fits : (f : Fact) → S f → Fits T f) (d : (f : Fact) → Fits T f → Dec (S f)) where
-  pub none-lacking-starts : ((t : ℕ) → t < T.n → ¬ LacksStart T S t) → Starts T S
-  none-lacking-starts none t h =
-      (Dec.not-not (d _ ((fits-closed-with-starts sound).starts t h))).0 (λ n. none t h (record { thread = h; not = n }))
+  pub none_lacking_starts : ((t : ℕ) → t < T.n → ¬ LacksStart T S t) → Starts T S
+  none_lacking_starts none t h =
+      (Dec.not-not (d _ ((fits_closed_with_starts sound).starts t h))).0 (λ n. none t h (record { thread = h; not = n }))
 
-  pub none-missing-closed : ((p : ℕ) → p < W T → ¬ Missing T S p) → Closed T S
-  none-missing-closed none f y =
-      let i : Fits T f = (fits-closed-with-starts sound).closed f (yields-mono fits f y) in
-      let l = pos-lt T f i in
+  pub none_missing_closed : ((p : ℕ) → p < W T → ¬ Missing T S p) → Closed T S
+  none_missing_closed none f y =
+      let i : Fits T f = (fits_closed_with_starts sound).closed f (yields_mono fits f y) in
+      let l = pos_lt T f i in
       (Dec.not-not (d f i)).0
-      (λ n. none (pos T f) l (record { below = l; yields = rw (factAt-pos T f i) y; not = rw (factAt-pos T f i) n }))
+      (λ n. none (pos T f) l (record { below = l; yields = rw (fact_at_pos T f i) y; not = rw (fact_at_pos T f i) n }))
 
 -- the facts that a memory marks
-pub marked-closed : {T : Table} → Sound T → (mem : List ℕ) → ((p : ℕ) → ¬ Missing T (Marked T mem) p) → Closed T (Marked T mem)
-marked-closed {T} sound mem none = none-missing-closed sound (λ f m. m.fits) marked? (λ p l. none p)
+pub marked_closed : {T : Table} → Sound T → (mem : List ℕ) → ((p : ℕ) → ¬ Missing T (Marked T mem) p) → Closed T (Marked T mem)
+marked_closed {T} sound mem none = none_missing_closed sound (λ f m. m.fits) marked? (λ p l. none p)
   where
     marked? : (f : Fact) → Fits T f → Dec (Marked T mem f)
     marked? f i = map_dec (λ e. record { fits = i; one = e }) (λ m. m.one) (ℕ_discrete (mark mem (pos T f)) 1)
 
 -- ---- the row of the smallest witness
 
-pub witness-row : {T : Table} {S : Fact → Type 0} {w : Witness} → SmallestWitness T S w → First (AllowsRow T S) w.row
-witness-row {w} s =
+pub witness_row : {T : Table} {S : Fact → Type 0} {w : Witness} → SmallestWitness T S w → First (AllowsRow T S) w.row
+witness_row {w} s =
     record {
       here = record { witness = w; by = refl; allows = s.allowed };
-      none = λ row l a. absurd (omega (arith, head-le (s.least a.witness a.allows), a.by));
+      none = λ row l a. absurd (omega (arith, head_le (s.least a.witness a.allows), a.by));
     }
 
 -- ---- the facts at listed positions
 
 module _ {T : Table} (sound : Sound T) (ps : List ℕ) (below : (p : ℕ) → Memᴰ p ps → p < W T) where
-  pub claimed-fits : (f : Fact) → Claimed T ps f → Fits T f
-  claimed-fits f m =
-      let (p, i, e) = Memᴰ.of_map (factAt T) ps m in
-      subst (Fits T) e (factAt-stands sound p (below p i)).fits
+  pub claimed_fits : (f : Fact) → Claimed T ps f → Fits T f
+  claimed_fits f m =
+      let (p, i, e) = Memᴰ.of_map (fact_at T) ps m in
+      subst (Fits T) e (fact_at_stands sound p (below p i)).fits
 
   -- the fact at p is claimed only if p is listed
-  claimed-listed : (p : ℕ) → p < W T → Claimed T ps (factAt T p) → Memᴰ p ps
-  claimed-listed p l m = let (q, i, e) = Memᴰ.of_map (factAt T) ps m in Memᴰ.cast (factAt-inj sound l (below q i) (sym e)) i
+  claimed_listed : (p : ℕ) → p < W T → Claimed T ps (fact_at T p) → Memᴰ p ps
+  claimed_listed p l m = let (q, i, e) = Memᴰ.of_map (fact_at T) ps m in Memᴰ.cast (fact_at_inj sound l (below q i) (sym e)) i
 
-  pub claimed-held : (mem : List ℕ) → W T ≤ length mem → ((p : ℕ) → p < W T → Says (Memᴰ p ps) (mark mem p))
+  pub claimed_held : (mem : List ℕ) → W T ≤ length mem → ((p : ℕ) → p < W T → Says (Memᴰ p ps) (mark mem p))
       → Holds T (Claimed T ps) mem
-  claimed-held mem long says =
-      record { long = long; says = λ p l. says-cast (λ i. Memᴰ.map (factAt T) i) (claimed-listed p l) (says p l) }
+  claimed_held mem long says =
+      record { long = long; says = λ p l. says_cast (λ i. Memᴰ.map (fact_at T) i) (claimed_listed p l) (says p l) }

@@ -37,19 +37,19 @@ Enumerates {A} S xs = (a : A) → S a ↔ Memᴰ a xs
 -- ---- the members of a list
 
 module _ {A : Type 0} {B : A → Type 0} (d : (a : A) → Dec (B a)) where
-  pub each-cons : {x : A} {xs : List A} → B x × ((a : A) → Memᴰ a xs → B a) → (a : A) → Memᴰ a (x ∷ xs) → B a
-  each-cons (b, bs) a (Memᴰ.head e) = subst⁻¹ B e b
-  each-cons (b, bs) a (Memᴰ.tail m) = bs a m
+  pub each_cons : {x : A} {xs : List A} → B x × ((a : A) → Memᴰ a xs → B a) → (a : A) → Memᴰ a (x ∷ xs) → B a
+  each_cons (b, bs) a (Memᴰ.head e) = subst⁻¹ B e b
+  each_cons (b, bs) a (Memᴰ.tail m) = bs a m
 
   -- whether B holds of each member
   unfoldable pub each? : (xs : List A) → Dec ((a : A) → Memᴰ a xs → B a)
   unfolding Dec.and ℕ_discrete
   each? [] = yes (λ a m. elim m [ ])
-  each? (x ∷ xs) = map_dec each-cons (λ h. (h x (Memᴰ.head refl), λ a m. h a (Memᴰ.tail m))) (Dec.and (d x) (each? xs))
+  each? (x ∷ xs) = map_dec each_cons (λ h. (h x (Memᴰ.head refl), λ a m. h a (Memᴰ.tail m))) (Dec.and (d x) (each? xs))
 
-  some-cons : {x a : A} {xs : List A} → ¬ B x → ¬ ((a : A) × Memᴰ a xs × B a) → Memᴰ a (x ∷ xs) → B a → ⊥
-  some-cons n n' (Memᴰ.head e) b = n (subst B e b)
-  some-cons n n' (Memᴰ.tail m) b = n' (_, m, b)
+  some_cons : {x a : A} {xs : List A} → ¬ B x → ¬ ((a : A) × Memᴰ a xs × B a) → Memᴰ a (x ∷ xs) → B a → ⊥
+  some_cons n n' (Memᴰ.head e) b = n (subst B e b)
+  some_cons n n' (Memᴰ.tail m) b = n' (_, m, b)
 
   -- whether B holds of some member
   some? : (xs : List A) → Dec ((a : A) × Memᴰ a xs × B a)
@@ -59,7 +59,7 @@ module _ {A : Type 0} {B : A → Type 0} (d : (a : A) → Dec (B a)) where
       go : Dec (B x) → Dec ((a : A) × Memᴰ a xs × B a) → Dec ((a : A) × Memᴰ a (x ∷ xs) × B a)
       go (yes b) _ = yes (x, Memᴰ.head refl, b)
       go (no n) (yes (a, m, b)) = yes (a, Memᴰ.tail m, b)
-      go (no n) (no n') = no (λ (a, m, b). some-cons n n' m b)
+      go (no n) (no n') = no (λ (a, m, b). some_cons n n' m b)
 
 member? : {A : Type 0} → Discrete A → (a : A) (xs : List A) → Dec (Memᴰ a xs)
 unfolding some? ℕ_discrete
@@ -71,15 +71,15 @@ up_to : ℕ → List ℕ
 up_to zero = []
 up_to (suc n) = n ∷ up_to n
 
-upTo-lt : (n : ℕ) {t : ℕ} → Memᴰ t (up_to n) → t < n
+up_to_lt : (n : ℕ) {t : ℕ} → Memᴰ t (up_to n) → t < n
 unfolding up_to
-upTo-lt (suc n) (Memᴰ.head e) = omega arith
-upTo-lt (suc n) (Memᴰ.tail m) = omega (arith, upTo-lt n m)
+up_to_lt (suc n) (Memᴰ.head e) = omega arith
+up_to_lt (suc n) (Memᴰ.tail m) = omega (arith, up_to_lt n m)
 
-lt-upTo : (n : ℕ) {t : ℕ} → t < n → Memᴰ t (up_to n)
+lt_up_to : (n : ℕ) {t : ℕ} → t < n → Memᴰ t (up_to n)
 unfolding up_to
-lt-upTo zero h = absurd (omega arith)
-lt-upTo (suc n) {t} h = go (ℕ_discrete t n) (λ i. lt-upTo n i)
+lt_up_to zero h = absurd (omega arith)
+lt_up_to (suc n) {t} h = go (ℕ_discrete t n) (λ i. lt_up_to n i)
   where
     go : Dec (t ≡ n) → (t < n → Memᴰ t (up_to n)) → Memᴰ t (up_to (suc n))
     go (yes e) _ = Memᴰ.head e
@@ -88,11 +88,11 @@ lt-upTo (suc n) {t} h = go (ℕ_discrete t n) (λ i. lt-upTo n i)
 module _ {B : ℕ → Type 0} (d : (t : ℕ) → Dec (B t)) where
   all? : (n : ℕ) → Dec ((t : ℕ) → t < n → B t)
   unfolding up_to each?
-  all? n = map_dec (λ h t i. h t (lt-upTo n i)) (λ h t m. h t (upTo-lt n m)) (each? d (up_to n))
+  all? n = map_dec (λ h t i. h t (lt_up_to n i)) (λ h t m. h t (up_to_lt n m)) (each? d (up_to n))
 
   any? : (n : ℕ) → Dec ((t : ℕ) × (t < n) × B t)
   unfolding up_to some? ℕ_discrete
-  any? n = map_dec (λ (t, m, b). (t, upTo-lt n m, b)) (λ (t, i, b). (t, lt-upTo n i, b)) (some? d (up_to n))
+  any? n = map_dec (λ (t, m, b). (t, up_to_lt n m, b)) (λ (t, i, b). (t, lt_up_to n i, b)) (some? d (up_to n))
 
 -- whether p is the smallest number of B
 first? : {B : ℕ → Type 0} → ((t : ℕ) → Dec (B t)) → (p : ℕ) → Dec (First B p)

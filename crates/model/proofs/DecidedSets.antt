@@ -7,19 +7,19 @@ use native.Mathlib.Omega.{arith}
 use lib.ListN.{length}
 use Rattle.files.specs.Table.{Table, W}
 use Rattle.model.specs.Rules.{Fact}
-use Rattle.model.specs.Positions.{factAt}
+use Rattle.model.specs.Positions.{fact_at}
 use Rattle.model.specs.Memory.{mark, Says, holds, fails, Holds, Counts, none, one, skip, CountOf}
 
 -- ---- how many there are
 
-pub counts-le : {A : ℕ → Type 0} {w c : ℕ} → Counts A w c → c ≤ w
-counts-le none = omega arith
-counts-le (one k _) = omega (arith, counts-le k)
-counts-le (skip k _) = omega (arith, counts-le k)
+pub counts_le : {A : ℕ → Type 0} {w c : ℕ} → Counts A w c → c ≤ w
+counts_le none = omega arith
+counts_le (one k _) = omega (arith, counts_le k)
+counts_le (skip k _) = omega (arith, counts_le k)
 
-decided-counts : {A : ℕ → Type 0} → ((p : ℕ) → Dec (A p)) → (w : ℕ) → (c : ℕ) × Counts A w c
-decided-counts d zero = (0, none)
-decided-counts {A} d (suc w) = add (d w) (decided-counts d w)
+decided_counts : {A : ℕ → Type 0} → ((p : ℕ) → Dec (A p)) → (w : ℕ) → (c : ℕ) × Counts A w c
+decided_counts d zero = (0, none)
+decided_counts {A} d (suc w) = add (d w) (decided_counts d w)
   where
     add : Dec (A w) → (c : ℕ) × Counts A w c → (c : ℕ) × Counts A (suc w) c
     add (yes a) (c, k) = (suc c, one k a)
@@ -32,10 +32,10 @@ bit (yes a) = (1, holds a)
 bit (no n) = (0, fails n)
 
 -- the marks from the first on: behind it stand those of the numbers less one
-decided-marks : {A : ℕ → Type 0} → ((p : ℕ) → Dec (A p)) → (w : ℕ)
+decided_marks : {A : ℕ → Type 0} → ((p : ℕ) → Dec (A p)) → (w : ℕ)
     → (mem : List ℕ) × (length mem ≡ w) × ((p : ℕ) → p < w → Says (A p) (mark mem p))
-decided-marks d zero = ([], refl, λ p l. absurd (omega arith))
-decided-marks {A} d (suc w) = put (bit (d 0)) (decided-marks (λ p. d (suc p)) w)
+decided_marks d zero = ([], refl, λ p l. absurd (omega arith))
+decided_marks {A} d (suc w) = put (bit (d 0)) (decided_marks (λ p. d (suc p)) w)
   where
     put : (x : ℕ) × Says (A 0) x → (mem : List ℕ) × (length mem ≡ w) × ((p : ℕ) → p < w → Says (A (suc p)) (mark mem p))
         → (mem : List ℕ) × (length mem ≡ suc w) × ((p : ℕ) → p < suc w → Says (A p) (mark mem p))
@@ -45,10 +45,10 @@ decided-marks {A} d (suc w) = put (bit (d 0)) (decided-marks (λ p. d (suc p)) w
 -- ---- of facts
 
 module _ (T : Table) {S : Fact → Type 0} (d : (f : Fact) → Dec (S f)) where
-  pub decided-counted : (c : ℕ) × CountOf T S c
-  decided-counted = decided-counts (λ p. d (factAt T p)) (W T)
+  pub decided_counted : (c : ℕ) × CountOf T S c
+  decided_counted = decided_counts (λ p. d (fact_at T p)) (W T)
 
-  pub decided-held : (mem : List ℕ) × (length mem ≡ W T) × Holds T S mem
-  decided-held =
-      let (mem, long, says) = decided-marks (λ p. d (factAt T p)) (W T) in
+  pub decided_held : (mem : List ℕ) × (length mem ≡ W T) × Holds T S mem
+  decided_held =
+      let (mem, long, says) = decided_marks (λ p. d (fact_at T p)) (W T) in
       (mem, long, record { long = omega arith; says = says })

@@ -17,11 +17,11 @@ use native.Mathlib.Omega.{arith}
 use lib.ListN.{length, get_elem?}
 
 module _ {A : Type 0} where
-  pub mem-first : {x : A} {xs : List A} → Memᴰ x (x ∷ xs)
-  mem-first = Memᴰ.head refl
+  pub mem_first : {x : A} {xs : List A} → Memᴰ x (x ∷ xs)
+  mem_first = Memᴰ.head refl
 
-  pub mem-second : {x y : A} {xs : List A} → Memᴰ y (x ∷ y ∷ xs)
-  mem-second = Memᴰ.tail mem-first
+  pub mem_second : {x y : A} {xs : List A} → Memᴰ y (x ∷ y ∷ xs)
+  mem_second = Memᴰ.tail mem_first
 
 module _ {A : Type 0} (C : A → Type 0) where
   -- what holds of each element holds of a member
@@ -29,51 +29,51 @@ module _ {A : Type 0} (C : A → Type 0) where
   from_one c (Memᴰ.head e) = subst⁻¹ C e c
   from_one c (Memᴰ.tail m) = elim m [ ]
 
-  pub from-two : {x y a : A} → C x → C y → Memᴰ a (x ∷ y ∷ []) → C a
-  from-two c d (Memᴰ.head e) = subst⁻¹ C e c
-  from-two c d (Memᴰ.tail m) = from_one d m
+  pub from_two : {x y a : A} → C x → C y → Memᴰ a (x ∷ y ∷ []) → C a
+  from_two c d (Memᴰ.head e) = subst⁻¹ C e c
+  from_two c d (Memᴰ.tail m) = from_one d m
 
   pub from_cons : {x a : A} {xs : List A} → C x → ((a : A) → Memᴰ a xs → C a) → Memᴰ a (x ∷ xs) → C a
   from_cons c f (Memᴰ.head e) = subst⁻¹ C e c
   from_cons c f (Memᴰ.tail m) = f _ m
 
   -- and what holds of the members of two lists holds of the members of both together
-  pub from-append : (xs ys : List A) {a : A} → ((a : A) → Memᴰ a xs → C a) → ((a : A) → Memᴰ a ys → C a)
+  pub from_append : (xs ys : List A) {a : A} → ((a : A) → Memᴰ a xs → C a) → ((a : A) → Memᴰ a ys → C a)
       → Memᴰ a (xs ++ ys) → C a
-  from-append xs ys {a} f g m = go (Memᴰ.append_cases xs m)
+  from_append xs ys {a} f g m = go (Memᴰ.append_cases xs m)
     where
       go : Memᴰ a xs ⊎ Memᴰ a ys → C a
       go (inl i) = f a i
       go (inr i) = g a i
 
 module _ {A B : Type 0} where
-  pub from-flatMap : (f : A → List B) (xs : List A) {b : B} → Memᴰ b (flat_map f xs)
+  pub from_flat_map : (f : A → List B) (xs : List A) {b : B} → Memᴰ b (flat_map f xs)
       → (a : A) × Memᴰ a xs × Memᴰ b (f a)
   unfolding flat_map
-  from-flatMap f [] m = elim m [ ]
-  from-flatMap f (x ∷ xs) m =
-      from-append (λ b. (a : A) × Memᴰ a (x ∷ xs) × Memᴰ b (f a)) (f x) (flat_map f xs)
-      (λ b i. (x, mem-first, i)) (λ b i. let (a, j, k) = from-flatMap f xs i in (a, Memᴰ.tail j, k)) m
+  from_flat_map f [] m = elim m [ ]
+  from_flat_map f (x ∷ xs) m =
+      from_append (λ b. (a : A) × Memᴰ a (x ∷ xs) × Memᴰ b (f a)) (f x) (flat_map f xs)
+      (λ b i. (x, mem_first, i)) (λ b i. let (a, j, k) = from_flat_map f xs i in (a, Memᴰ.tail j, k)) m
 
-  pub to-flatMap : (f : A → List B) {xs : List A} {a : A} {b : B} → Memᴰ a xs → Memᴰ b (f a) → Memᴰ b (flat_map f xs)
+  pub to_flat_map : (f : A → List B) {xs : List A} {a : A} {b : B} → Memᴰ a xs → Memᴰ b (f a) → Memᴰ b (flat_map f xs)
   unfolding flat_map
-  to-flatMap f {b} (Memᴰ.head e) m = Memᴰ.append_left _ (subst (λ (x : A). Memᴰ b (f x)) e m)
-  to-flatMap f (Memᴰ.tail {x} i) m = Memᴰ.append_right (f x) (to-flatMap f i m)
+  to_flat_map f {b} (Memᴰ.head e) m = Memᴰ.append_left _ (subst (λ (x : A). Memᴰ b (f x)) e m)
+  to_flat_map f (Memᴰ.tail {x} i) m = Memᴰ.append_right (f x) (to_flat_map f i m)
 
   -- a list under a condition
   unfoldable pub only : Dec A → List B → List B
   only (yes _) xs = xs
   only (no _) xs = []
 
-  pub from-only : (d : Dec A) {xs : List B} {b : B} → Memᴰ b (only d xs) → A × Memᴰ b xs
+  pub from_only : (d : Dec A) {xs : List B} {b : B} → Memᴰ b (only d xs) → A × Memᴰ b xs
   unfolding only
-  from-only (yes a) m = (a, m)
-  from-only (no _) m = elim m [ ]
+  from_only (yes a) m = (a, m)
+  from_only (no _) m = elim m [ ]
 
-  pub to-only : (d : Dec A) {xs : List B} {b : B} → A → Memᴰ b xs → Memᴰ b (only d xs)
+  pub to_only : (d : Dec A) {xs : List B} {b : B} → A → Memᴰ b xs → Memᴰ b (only d xs)
   unfolding only
-  to-only (yes _) a m = m
-  to-only (no n) a m = absurd (n a)
+  to_only (yes _) a m = m
+  to_only (no n) a m = absurd (n a)
 
 module _ {A B : Type 0} {C : A → Type 0} where
   -- for each member of xs at which a condition holds, the list that it gives
@@ -81,23 +81,23 @@ module _ {A B : Type 0} {C : A → Type 0} where
   unfolding only flat_map
   gather d f xs = flat_map (λ a. only (d a) (f a)) xs
 
-  pub from-gather : (d : (a : A) → Dec (C a)) (f : A → List B) (xs : List A) {b : B} → Memᴰ b (gather d f xs)
+  pub from_gather : (d : (a : A) → Dec (C a)) (f : A → List B) (xs : List A) {b : B} → Memᴰ b (gather d f xs)
       → (a : A) × Memᴰ a xs × C a × Memᴰ b (f a)
   unfolding gather
-  from-gather d f xs m =
-      let (a, i, n) = from-flatMap (λ a. only (d a) (f a)) xs m in
-      let (c, o) = from-only (d a) n in
+  from_gather d f xs m =
+      let (a, i, n) = from_flat_map (λ a. only (d a) (f a)) xs m in
+      let (c, o) = from_only (d a) n in
       (a, i, c, o)
 
-  pub to-gather : (d : (a : A) → Dec (C a)) (f : A → List B) {xs : List A} {a : A} {b : B} → Memᴰ a xs → C a → Memᴰ b (f a)
+  pub to_gather : (d : (a : A) → Dec (C a)) (f : A → List B) {xs : List A} {a : A} {b : B} → Memᴰ a xs → C a → Memᴰ b (f a)
       → Memᴰ b (gather d f xs)
   unfolding gather
-  to-gather d f {a} i c m = to-flatMap (λ a. only (d a) (f a)) i (to-only (d a) c m)
+  to_gather d f {a} i c m = to_flat_map (λ a. only (d a) (f a)) i (to_only (d a) c m)
 
 -- ---- what stands at a number
 
 -- there is no entry past the last
-pub some-lt : {A : Type 0} (xs : List A) (i : ℕ) {a : A} → get_elem? xs i ≡ some a → i < length xs
-some-lt [] i e = let z : ◌≡◌ {A = ℕ} 0 1 = cc in absurd (omega arith)
-some-lt (x ∷ xs) zero e = omega arith
-some-lt (x ∷ xs) (suc i) e = omega (arith, some-lt xs i e)
+pub some_lt : {A : Type 0} (xs : List A) (i : ℕ) {a : A} → get_elem? xs i ≡ some a → i < length xs
+some_lt [] i e = let z : ◌≡◌ {A = ℕ} 0 1 = cc in absurd (omega arith)
+some_lt (x ∷ xs) zero e = omega arith
+some_lt (x ∷ xs) (suc i) e = omega (arith, some_lt xs i e)

@@ -39,13 +39,13 @@ pub ≼-total : (xs ys : List ℕ) → length xs ≡ length ys → (xs ≼ ys) �
     go (no h) (yes h') _ = inr (less h')
     go (no h) (no h') rest = ⊎_elim (λ p. inl (more (omega arith) p)) (λ p. inr (more (omega arith) p)) rest
 
-pub head-le : {x y : ℕ} {xs ys : List ℕ} → (x ∷ xs) ≼ (y ∷ ys) → x ≤ y
-head-le (less h) = omega arith
-head-le (more e _) = omega arith
+pub head_le : {x y : ℕ} {xs ys : List ℕ} → (x ∷ xs) ≼ (y ∷ ys) → x ≤ y
+head_le (less h) = omega arith
+head_le (more e _) = omega arith
 
 -- a witness is determined by its numbers
-pub witness-by-numbers : (w v : Witness) → numbers w ≡ numbers v → w ≡ v
-witness-by-numbers w v e =
+pub witness_by_numbers : (w v : Witness) → numbers w ≡ numbers v → w ≡ v
+witness_by_numbers w v e =
     let r : w.row ≡ v.row = cc in
     let g : w.shared ≡ v.shared = cc in
     let l : w.locals ≡ v.locals = cc in

@@ -7,8 +7,8 @@ use Rattle.model.proofs.Decide.{decided}
 use Rattle.model.proofs.Decide.Least.{Exact, exact?}
 
 -- one thread, which steps from 0, 0 to 1, 1
-unfoldable pub oneStep : Table
-oneStep =
+unfoldable pub one_step : Table
+one_step =
     record {
       n = 1;
       G = 2;
@@ -23,6 +23,6 @@ oneStep =
       errors = [];
     }
 
-pub own-guarantee-does-not-act : Exact oneStep 2 (G 0 0 1 ∷ P 0 0 0 0 0 ∷ P 0 0 0 1 1 ∷ [])
-unfolding oneStep exact?
-own-guarantee-does-not-act = decided (exact? oneStep 2 (G 0 0 1 ∷ P 0 0 0 0 0 ∷ P 0 0 0 1 1 ∷ [])) tt
+pub own_guarantee_does_not_act : Exact one_step 2 (G 0 0 1 ∷ P 0 0 0 0 0 ∷ P 0 0 0 1 1 ∷ [])
+unfolding one_step exact?
+own_guarantee_does_not_act = decided (exact? one_step 2 (G 0 0 1 ∷ P 0 0 0 0 0 ∷ P 0 0 0 1 1 ∷ [])) tt

@@ -11,7 +11,7 @@ use lib.ListN.{length, get_or, length-set, length-replicate, get_or-replicate}
 use lib.Seq.{get_or-set_same, get_or-set_other}
 use Rattle.files.specs.Table.{Table, Sound}
 use Rattle.model.specs.Taken.{Steps, Pushes, Pops}
-use Rattle.model.specs.Rules.{Fact, G, P, Q, env-P, step-P, step-G, push-Q, push-P, call, pop-P, ClosedWithStarts}
+use Rattle.model.specs.Rules.{Fact, G, P, Q, env_P, step_P, step_G, push_Q, push_P, call, pop_P, ClosedWithStarts}
 use Rattle.model.specs.Runs.{State, begin, Moves, step, push, pop, Run, first, next}
 use Rattle.model.specs.Errors.{ErrorState, Reaches, Safe}
 
@@ -41,68 +41,68 @@ pub record AllHeld (T : Table) (S : Fact → Type 0) (s : State) : Type 0 where
 
 module _ {T : Table} (sound : Sound T) {S : Fact → Type 0} (c : ClosedWithStarts T S) where
   -- a move of the thread itself
-  own-step : {t g l g' l' : ℕ} {s : List ℕ} → Steps T t g l g' l' → Held S t g l s → Held S t g' l' s
-  own-step r h = record { g₁ = _; l₁ = _; fact = c.closed _ (step-P h.fact r); chain = h.chain }
+  own_step : {t g l g' l' : ℕ} {s : List ℕ} → Steps T t g l g' l' → Held S t g l s → Held S t g' l' s
+  own_step r h = record { g₁ = _; l₁ = _; fact = c.closed _ (step_P h.fact r); chain = h.chain }
 
-  own-push : {t g l l' f : ℕ} {s : List ℕ} → Pushes T t g l l' f → Held S t g l s → Held S t g l' (f ∷ s)
-  own-push r h =
-      record { g₁ = _; l₁ = _; fact = c.closed _ (push-P h.fact r); chain = frame (c.closed _ (push-Q h.fact r)) h.chain }
+  own_push : {t g l l' f : ℕ} {s : List ℕ} → Pushes T t g l l' f → Held S t g l s → Held S t g l' (f ∷ s)
+  own_push r h =
+      record { g₁ = _; l₁ = _; fact = c.closed _ (push_P h.fact r); chain = frame (c.closed _ (push_Q h.fact r)) h.chain }
 
-  own-pop : {t g₁ l₁ g l f l' : ℕ} {s : List ℕ} → Pops T t g l f l' → S (P t g₁ l₁ g l) → Chain S t g₁ l₁ (f ∷ s) → Held S t g l' s
-  own-pop r p (frame q ch) = record { g₁ = _; l₁ = _; fact = c.closed _ (pop-P (c.closed _ (call q p)) r); chain = ch }
+  own_pop : {t g₁ l₁ g l f l' : ℕ} {s : List ℕ} → Pops T t g l f l' → S (P t g₁ l₁ g l) → Chain S t g₁ l₁ (f ∷ s) → Held S t g l' s
+  own_pop r p (frame q ch) = record { g₁ = _; l₁ = _; fact = c.closed _ (pop_P (c.closed _ (call q p)) r); chain = ch }
 
   -- a step of another thread e
   other_step : {t e g g' l : ℕ} {s : List ℕ} → S (G e g g') → e ≢ t → Held S t g l s → Held S t g' l s
-  other_step q ne h = record { g₁ = _; l₁ = _; fact = c.closed _ (env-P h.fact q ne); chain = h.chain }
+  other_step q ne h = record { g₁ = _; l₁ = _; fact = c.closed _ (env_P h.fact q ne); chain = h.chain }
 
   -- the thread that moved, and the others
-  mover-and-others : (t : ℕ) (s : State) → length s.locals ≡ T.n → length s.stacks ≡ T.n → HeldIn S s t
+  mover_and_others : (t : ℕ) (s : State) → length s.locals ≡ T.n → length s.stacks ≡ T.n → HeldIn S s t
       → ((e : ℕ) → e < T.n → e ≢ t → HeldIn S s e) → AllHeld T S s
-  mover-and-others t s nl ns own others = record { locals = nl; stacks = ns; held = λ e h. go e h (ℕ_discrete e t) }
+  mover_and_others t s nl ns own others = record { locals = nl; stacks = ns; held = λ e h. go e h (ℕ_discrete e t) }
     where
       go : (e : ℕ) → e < T.n → Dec (e ≡ t) → HeldIn S s e
       go e h (yes p) = subst⁻¹ (HeldIn S s) p own
       go e h (no ne) = others e h ne
 
-  moves-held : {t : ℕ} {s s' : State} → Moves T t s s' → AllHeld T S s → AllHeld T S s'
-  moves-held {t} (step {ls} r) h =
+  moves_held : {t : ℕ} {s s' : State} → Moves T t s s' → AllHeld T S s → AllHeld T S s'
+  moves_held {t} (step {ls} r) h =
       let i = (sound.steps.fits _ r.row).t in
       let il : t < length ls = omega arith in
       let own = h.held t i in
-      mover-and-others t _ (simp length-set h.locals) h.stacks (simp get_or-set_same (own-step r own))
-      (λ e j ne. simp get_or-set_other (other_step (c.closed _ (step-G own.fact r)) (λ p. ne (sym p)) (h.held e j)))
-  moves-held {t} (push {ls} {ss} r) h =
+      mover_and_others t _ (simp length-set h.locals) h.stacks (simp get_or-set_same (own_step r own))
+      (λ e j ne. simp get_or-set_other (other_step (c.closed _ (step_G own.fact r)) (λ p. ne (sym p)) (h.held e j)))
+  moves_held {t} (push {ls} {ss} r) h =
       let i = (sound.pushes.fits _ r.row).t in
       let il : t < length ls = omega arith in
       let is : t < length ss = omega arith in
-      mover-and-others t _ (simp length-set h.locals) (simp length-set h.stacks) (simp get_or-set_same (own-push r (h.held t i)))
+      mover_and_others t _ (simp length-set h.locals) (simp length-set h.stacks) (simp get_or-set_same (own_push r (h.held t i)))
       (λ e j ne. simp get_or-set_other (h.held e j))
-  moves-held {t} (pop {ls} {ss} p r) h =
+  moves_held {t} (pop {ls} {ss} p r) h =
       let i = (sound.pops.fits _ r.row).t in
       let il : t < length ls = omega arith in
       let is : t < length ss = omega arith in
       let own = h.held t i in
-      mover-and-others t _ (simp length-set h.locals) (simp length-set h.stacks)
-      (simp get_or-set_same (own-pop r own.fact (rw p at own).chain)) (λ e j ne. simp get_or-set_other (h.held e j))
+      mover_and_others t _ (simp length-set h.locals) (simp length-set h.stacks)
+      (simp get_or-set_same (own_pop r own.fact (rw p at own).chain)) (λ e j ne. simp get_or-set_other (h.held e j))
 
-  begin-held : AllHeld T S (begin T)
-  begin-held =
+  begin_held : AllHeld T S (begin T)
+  begin_held =
       record {
         locals = sound.count;
         stacks = length-replicate _ _;
         held = λ t h. simp get_or-replicate (record { g₁ = _; l₁ = _; fact = c.starts t h; chain = root });
       }
 
-  pub run-held : {s : State} → Run T s → AllHeld T S s
-  run-held first = begin-held
-  run-held (next r m) = moves-held m (run-held r)
+  pub run_held : {s : State} → Run T s → AllHeld T S s
+  run_held first = begin_held
+  run_held (next r m) = moves_held m (run_held r)
 
   -- Lemma 2
-  pub run-reaches : {s : State} → Run T s → (t : ℕ) → t < T.n → Reaches S t s.shared (get_or s.locals t 0)
-  run-reaches r t h = record { g₁ = _; l₁ = _; fact = ((run-held r).held t h).fact }
+  pub run_reaches : {s : State} → Run T s → (t : ℕ) → t < T.n → Reaches S t s.shared (get_or s.locals t 0)
+  run_reaches r t h = record { g₁ = _; l₁ = _; fact = ((run_held r).held t h).fact }
 
   -- what the set calls safe is safe
-  pub safe-runs : Safe T S → {s : State} → Run T s → ¬ ErrorState T s
-  safe-runs none {s} r (row, e) =
+  pub safe_runs : Safe T S → {s : State} → Run T s → ¬ ErrorState T s
+  safe_runs none {s} r (row, e) =
       none (record { row = row; shared = s.shared; locals = s.locals })
-      (record { count = (run-held r).locals; erroneous = e; reached = run-reaches r })
+      (record { count = (run_held r).locals; erroneous = e; reached = run_reaches r })

@@ -19,16 +19,16 @@ use Rattle.model.specs.Claims.{
   Missing,
   AllowsRow,
   Finding,
-  lacks-start,
-  not-closed,
-  allows-error,
+  lacks_start,
+  not_closed,
+  allows_error,
   Finds,
   whole,
   lacking,
   missing,
   allowing,
 }
-use Rattle.model.proofs.Order.{≼-antisym, witness-by-numbers}
+use Rattle.model.proofs.Order.{≼-antisym, witness_by_numbers}
 
 -- ---- the memory
 
@@ -57,11 +57,11 @@ counts_same (one k a) (skip k' n) = absurd (n a)
 counts_same (skip k n) (one k' a) = absurd (n a)
 counts_same (skip k n) (skip k' n') = counts_same k k'
 
-pub fact-count-same : (T : Table) {c c' : ℕ} → FactCount T c → FactCount T c' → c ≡ c'
-fact-count-same T = counts_same
+pub fact_count_same : (T : Table) {c c' : ℕ} → FactCount T c → FactCount T c' → c ≡ c'
+fact_count_same T = counts_same
 
-pub first-same : {A : ℕ → Type 0} {p q : ℕ} → First A p → First A q → p ≡ q
-first-same {p} {q} a b = go (dec_lt p q) (dec_lt q p)
+pub first_same : {A : ℕ → Type 0} {p q : ℕ} → First A p → First A q → p ≡ q
+first_same {p} {q} a b = go (dec_lt p q) (dec_lt q p)
   where
     go : Dec (p < q) → Dec (q < p) → p ≡ q
     go (yes h) _ = absurd (b.none p h a.here)
@@ -70,40 +70,40 @@ first-same {p} {q} a b = go (dec_lt p q) (dec_lt q p)
 
 -- ---- the verdict
 
-pub verdict-same : {T : Table} {S : Fact → Type 0} {v v' : Option Witness} → Verdict T S v → Verdict T S v' → v ≡ v'
-verdict-same (safe _) (safe _) = refl
-verdict-same (safe n) (possible s) = absurd (n _ s.allowed)
-verdict-same (possible s) (safe n) = absurd (n _ s.allowed)
-verdict-same (possible {w} s) (possible {w = v} s') =
-    ap some (witness-by-numbers w v (≼-antisym (s.least v s'.allowed) (s'.least w s.allowed)))
+pub verdict_same : {T : Table} {S : Fact → Type 0} {v v' : Option Witness} → Verdict T S v → Verdict T S v' → v ≡ v'
+verdict_same (safe _) (safe _) = refl
+verdict_same (safe n) (possible s) = absurd (n _ s.allowed)
+verdict_same (possible s) (safe n) = absurd (n _ s.allowed)
+verdict_same (possible {w} s) (possible {w = v} s') =
+    ap some (witness_by_numbers w v (≼-antisym (s.least v s'.allowed) (s'.least w s.allowed)))
 
 -- ---- the finding on a claim
 
 module _ {T : Table} {S : Fact → Type 0} where
   -- what is found at one stage rules out what the later stages take for granted
-  lack-never : {t : ℕ} {A : Type 0} → First (LacksStart T S) t → Starts T S → A
-  lack-never f s = absurd (f.here.not (s _ f.here.thread))
+  lack_never : {t : ℕ} {A : Type 0} → First (LacksStart T S) t → Starts T S → A
+  lack_never f s = absurd (f.here.not (s _ f.here.thread))
 
-  missing-never : {p : ℕ} {A : Type 0} → First (Missing T S) p → ClosedWithStarts T S → A
-  missing-never f c = absurd (f.here.not (c.closed _ f.here.yields))
+  missing_never : {p : ℕ} {A : Type 0} → First (Missing T S) p → ClosedWithStarts T S → A
+  missing_never f c = absurd (f.here.not (c.closed _ f.here.yields))
 
-  row-never : {row : ℕ} {A : Type 0} → First (AllowsRow T S) row → Safe T S → A
-  row-never f s = absurd (s _ f.here.allows)
+  row_never : {row : ℕ} {A : Type 0} → First (AllowsRow T S) row → Safe T S → A
+  row_never f s = absurd (s _ f.here.allows)
 
-  pub finding-same : {a b : Finding} → Finds T S a → Finds T S b → a ≡ b
-  finding-same (whole c s) (whole _ _) = refl
-  finding-same (whole c s) (lacking f) = lack-never f c.starts
-  finding-same (whole c s) (missing _ f) = missing-never f c
-  finding-same (whole c s) (allowing _ f) = row-never f s
-  finding-same (lacking f) (whole c _) = lack-never f c.starts
-  finding-same (lacking f) (lacking f') = ap lacks-start (first-same f f')
-  finding-same (lacking f) (missing s _) = lack-never f s
-  finding-same (lacking f) (allowing c _) = lack-never f c.starts
-  finding-same (missing s f) (whole c _) = missing-never f c
-  finding-same (missing s f) (lacking f') = lack-never f' s
-  finding-same (missing s f) (missing _ f') = ap not-closed (first-same f f')
-  finding-same (missing s f) (allowing c _) = missing-never f c
-  finding-same (allowing c f) (whole _ s) = row-never f s
-  finding-same (allowing c f) (lacking f') = lack-never f' c.starts
-  finding-same (allowing c f) (missing _ f') = missing-never f' c
-  finding-same (allowing c f) (allowing _ f') = ap allows-error (first-same f f')
+  pub finding_same : {a b : Finding} → Finds T S a → Finds T S b → a ≡ b
+  finding_same (whole c s) (whole _ _) = refl
+  finding_same (whole c s) (lacking f) = lack_never f c.starts
+  finding_same (whole c s) (missing _ f) = missing_never f c
+  finding_same (whole c s) (allowing _ f) = row_never f s
+  finding_same (lacking f) (whole c _) = lack_never f c.starts
+  finding_same (lacking f) (lacking f') = ap lacks_start (first_same f f')
+  finding_same (lacking f) (missing s _) = lack_never f s
+  finding_same (lacking f) (allowing c _) = lack_never f c.starts
+  finding_same (missing s f) (whole c _) = missing_never f c
+  finding_same (missing s f) (lacking f') = lack_never f' s
+  finding_same (missing s f) (missing _ f') = ap not_closed (first_same f f')
+  finding_same (missing s f) (allowing c _) = missing_never f c
+  finding_same (allowing c f) (whole _ s) = row_never f s
+  finding_same (allowing c f) (lacking f') = lack_never f' c.starts
+  finding_same (allowing c f) (missing _ f') = missing_never f' c
+  finding_same (allowing c f) (allowing _ f') = ap allows_error (first_same f f')

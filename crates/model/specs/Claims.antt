@@ -2,13 +2,13 @@
 use Rattle.std.specs.Prelude.{◌≡◌, ℕ, ◌<◌}
 use mathlib.Core.List.{List, map, Memᴰ}
 use Rattle.files.specs.Table.{Table, W}
-use Rattle.model.specs.Rules.{Fact, Yields, startFact, Starts, ClosedWithStarts}
+use Rattle.model.specs.Rules.{Fact, Yields, start_fact, Starts, ClosedWithStarts}
 use Rattle.model.specs.Errors.{Witness, Allows, Safe}
-use Rattle.model.specs.Positions.{factAt}
+use Rattle.model.specs.Positions.{fact_at}
 
 -- the facts at the positions that a claim lists (01, "Working memory and claims")
 abbrev pub Claimed : Table → List ℕ → Fact → Type 0
-Claimed T ps f = Memᴰ f (map (factAt T) ps)
+Claimed T ps f = Memᴰ f (map (fact_at T) ps)
 
 -- p is the smallest number in A
 pub record First (A : ℕ → Type 0) (p : ℕ) : Type 0 where
@@ -18,13 +18,13 @@ pub record First (A : ℕ → Type 0) (p : ℕ) : Type 0 where
 -- 9: S lacks the start fact of thread t
 pub record LacksStart (T : Table) (S : Fact → Type 0) (t : ℕ) : Type 0 where
   pub thread : t < T.n
-  pub not : ¬ S (startFact T t)
+  pub not : ¬ S (start_fact T t)
 
 -- 10: one use of a rule yields the fact at position p from facts in S, and S lacks it
 pub record Missing (T : Table) (S : Fact → Type 0) (p : ℕ) : Type 0 where
   pub below : p < W T
-  pub yields : Yields T S (factAt T p)
-  pub not : ¬ S (factAt T p)
+  pub yields : Yields T S (fact_at T p)
+  pub not : ¬ S (fact_at T p)
 
 -- 11: S allows an error by the row
 pub record AllowsRow (T : Table) (S : Fact → Type 0) (row : ℕ) : Type 0 where
@@ -35,14 +35,14 @@ pub record AllowsRow (T : Table) (S : Fact → Type 0) (row : ℕ) : Type 0 wher
 -- an answer with its value, the claim's count aside
 pub data Finding : Type 0 where
   accepted : Finding
-  lacks-start : (t : ℕ) → Finding
-  not-closed : (p : ℕ) → Finding
-  allows-error : (row : ℕ) → Finding
+  lacks_start : (t : ℕ) → Finding
+  not_closed : (p : ℕ) → Finding
+  allows_error : (row : ℕ) → Finding
 
 -- "then 9, 10, 11": the smallest thread whose start fact is lacking; else the smallest missing position; else the smallest row of an allowed
 -- error; and a claim with none of these is accepted
 pub data Finds (T : Table) (S : Fact → Type 0) : Finding → Type 0 where
   whole : ClosedWithStarts T S → Safe T S → Finds T S accepted
-  lacking : {t : ℕ} → First (LacksStart T S) t → Finds T S (lacks-start t)
-  missing : {p : ℕ} → Starts T S → First (Missing T S) p → Finds T S (not-closed p)
-  allowing : {row : ℕ} → ClosedWithStarts T S → First (AllowsRow T S) row → Finds T S (allows-error row)
+  lacking : {t : ℕ} → First (LacksStart T S) t → Finds T S (lacks_start t)
+  missing : {p : ℕ} → Starts T S → First (Missing T S) p → Finds T S (not_closed p)
+  allowing : {row : ℕ} → ClosedWithStarts T S → First (AllowsRow T S) row → Finds T S (allows_error row)

@@ -2,7 +2,7 @@
 use Rattle.std.specs.Prelude.{◌≡◌, List, ℕ, zero, suc, ◌+◌, ◌≤◌, ◌<◌, length, get_or}
 use Rattle.files.specs.Table.{Table, W}
 use Rattle.model.specs.Rules.{Fact, Derives}
-use Rattle.model.specs.Positions.{Fits, pos, factAt}
+use Rattle.model.specs.Positions.{Fits, pos, fact_at}
 
 -- the mark at position p: the one place that says where a fact's mark stands
 abbrev pub mark : List ℕ → ℕ → ℕ
@@ -20,7 +20,7 @@ pub data Says (A : Type 0) : ℕ → Type 0 where
 -- the first W bytes hold S: they say of each fact whether it is in S
 pub record Holds (T : Table) (S : Fact → Type 0) (mem : List ℕ) : Type 0 where
   pub long : W T ≤ length mem
-  pub says : (p : ℕ) → p < W T → Says (S (factAt T p)) (mark mem p)
+  pub says : (p : ℕ) → p < W T → Says (S (fact_at T p)) (mark mem p)
 
 -- "On 0 the first W bytes hold the relations"
 abbrev pub Relations : Table → List ℕ → Type 0
@@ -44,7 +44,7 @@ pub data Counts (A : ℕ → Type 0) : ℕ → ℕ → Type 0 where
 
 -- c of the facts that have a position are in S
 abbrev pub CountOf : Table → (Fact → Type 0) → ℕ → Type 0
-CountOf T S c = Counts (λ p. S (factAt T p)) (W T) c
+CountOf T S c = Counts (λ p. S (fact_at T p)) (W T) c
 
 -- the reported count ("Budget"): the least relations hold c facts, G, P and Q together
 abbrev pub FactCount : Table → ℕ → Type 0

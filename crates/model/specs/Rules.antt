@@ -16,26 +16,26 @@ pub data Fact : Type 0 where
 -- one use of rules 2 to 7 yields a fact from facts in S
 pub data Yields (T : Table) (S : Fact → Type 0) : Fact → Type 0 where
   -- rules 2 and 3: a guarantee of another thread e
-  env-P : {t e g₁ l₁ g₂ l₂ g₃ : ℕ} → S (P t g₁ l₁ g₂ l₂) → S (G e g₂ g₃) → e ≢ t → Yields T S (P t g₁ l₁ g₃ l₂)
-  env-Q : {t e g₁ l₁ f g₂ l₂ g₃ : ℕ} → S (Q t g₁ l₁ f g₂ l₂) → S (G e g₂ g₃) → e ≢ t → Yields T S (Q t g₁ l₁ f g₃ l₂)
+  env_P : {t e g₁ l₁ g₂ l₂ g₃ : ℕ} → S (P t g₁ l₁ g₂ l₂) → S (G e g₂ g₃) → e ≢ t → Yields T S (P t g₁ l₁ g₃ l₂)
+  env_Q : {t e g₁ l₁ f g₂ l₂ g₃ : ℕ} → S (Q t g₁ l₁ f g₂ l₂) → S (G e g₂ g₃) → e ≢ t → Yields T S (Q t g₁ l₁ f g₃ l₂)
   -- rule 4: a step row gives two facts, the second also when g₃ = g₂
-  step-P : {t g₁ l₁ g₂ l₂ g₃ l₃ : ℕ} → S (P t g₁ l₁ g₂ l₂) → Steps T t g₂ l₂ g₃ l₃ → Yields T S (P t g₁ l₁ g₃ l₃)
-  step-G : {t g₁ l₁ g₂ l₂ g₃ l₃ : ℕ} → S (P t g₁ l₁ g₂ l₂) → Steps T t g₂ l₂ g₃ l₃ → Yields T S (G t g₂ g₃)
+  step_P : {t g₁ l₁ g₂ l₂ g₃ l₃ : ℕ} → S (P t g₁ l₁ g₂ l₂) → Steps T t g₂ l₂ g₃ l₃ → Yields T S (P t g₁ l₁ g₃ l₃)
+  step_G : {t g₁ l₁ g₂ l₂ g₃ l₃ : ℕ} → S (P t g₁ l₁ g₂ l₂) → Steps T t g₂ l₂ g₃ l₃ → Yields T S (G t g₂ g₃)
   -- rule 5: a push row gives two facts, the second for the callee's own start
-  push-Q : {t g₁ l₁ g₂ l₂ l₃ f : ℕ} → S (P t g₁ l₁ g₂ l₂) → Pushes T t g₂ l₂ l₃ f → Yields T S (Q t g₁ l₁ f g₂ l₃)
-  push-P : {t g₁ l₁ g₂ l₂ l₃ f : ℕ} → S (P t g₁ l₁ g₂ l₂) → Pushes T t g₂ l₂ l₃ f → Yields T S (P t g₂ l₃ g₂ l₃)
+  push_Q : {t g₁ l₁ g₂ l₂ l₃ f : ℕ} → S (P t g₁ l₁ g₂ l₂) → Pushes T t g₂ l₂ l₃ f → Yields T S (Q t g₁ l₁ f g₂ l₃)
+  push_P : {t g₁ l₁ g₂ l₂ l₃ f : ℕ} → S (P t g₁ l₁ g₂ l₂) → Pushes T t g₂ l₂ l₃ f → Yields T S (P t g₂ l₃ g₂ l₃)
   -- rule 6: what the callee does
   call : {t g₁ l₁ f g₂ l₂ g₃ l₃ : ℕ} → S (Q t g₁ l₁ f g₂ l₂) → S (P t g₂ l₂ g₃ l₃) → Yields T S (Q t g₁ l₁ f g₃ l₃)
   -- rule 7: a pop row
-  pop-P : {t g₁ l₁ f g₂ l₂ l₃ : ℕ} → S (Q t g₁ l₁ f g₂ l₂) → Pops T t g₂ l₂ f l₃ → Yields T S (P t g₁ l₁ g₂ l₃)
+  pop_P : {t g₁ l₁ f g₂ l₂ l₃ : ℕ} → S (Q t g₁ l₁ f g₂ l₂) → Pops T t g₂ l₂ f l₃ → Yields T S (P t g₁ l₁ g₂ l₃)
 
 -- the fact that rule 1 gives for thread t
-abbrev pub startFact : Table → ℕ → Fact
-startFact T t = P t T.g₀ (begins T t) T.g₀ (begins T t)
+abbrev pub start_fact : Table → ℕ → Fact
+start_fact T t = P t T.g₀ (begins T t) T.g₀ (begins T t)
 
 -- S holds the start facts
 abbrev pub Starts : Table → (Fact → Type 0) → Type 0
-Starts T S = (t : ℕ) → t < T.n → S (startFact T t)
+Starts T S = (t : ℕ) → t < T.n → S (start_fact T t)
 
 -- S is closed under rules 2 to 7
 abbrev pub Closed : Table → (Fact → Type 0) → Type 0
@@ -49,5 +49,5 @@ pub record ClosedWithStarts (T : Table) (S : Fact → Type 0) : Type 0 where
 -- The least relations: a fact is derivable if it is a start fact, or if one use of a rule yields it from derivable facts. The facts used
 -- stand in a list, since a definition may not give itself to Yields as the set.
 pub data Derives (T : Table) : Fact → Type 0 where
-  start : (t : ℕ) → t < T.n → Derives T (startFact T t)
+  start : (t : ℕ) → t < T.n → Derives T (start_fact T t)
   by : {f : Fact} (used : List Fact) → Yields T (λ q. Memᴰ q used) f → ((q : Fact) → Memᴰ q used → Derives T q) → Derives T f

@@ -1,9 +1,9 @@
 -- Laws of a number that is read.
---     groups_none, -cut, -short, -last, -more    what `groupsAt` gives, one law for each way that it goes
+--     groups_none, _cut, _short, _last, _more    what `groups_at` gives, one law for each way that it goes
 --     Accepted                                   what the bytes of a number are, said without the order of the tests
---     accepted, accepted-groups                  `groupsAt` gives a value exactly where the bytes are those of a number
---     number-groups, -small                      a number is four groups at most, and a byte below 128 is one by itself
---     number_past, number-below                  a number that was read ends within the bytes, and is below 2^28
+--     accepted, accepted_groups                  `groups_at` gives a value exactly where the bytes are those of a number
+--     number_groups, _small                      a number is four groups at most, and a byte below 128 is one by itself
+--     number_past, number_below                  a number that was read ends within the bytes, and is below 2^28
 --     number_short                               it takes no more bytes than it is large, and 0 takes one
 -- Each property of a number is an induction on `Accepted`.
 use mathlib.Core.Path.{◌≡◌, refl, sym, ◌∙◌}
@@ -17,35 +17,35 @@ use lib.ListN.{length, get_or}
 use lib.Dec.{ltb, lit<}
 use Rattle.numbers.specs.declared.reading.Grouped.{Grouped}
 use Rattle.numbers.specs.declared.reading.Grouped.TheVariants.{Value, Cut, Long}
-use Rattle.numbers.specs.Reading.{got, pick, onto, groupsAt, out_of, numberAt}
+use Rattle.numbers.specs.Reading.{got, pick, onto, groups_at, out_of, number_at}
 use Rattle.numbers.proofs.ReadingLaws.{never}
 
 -- ---- the ways that the reading of groups goes
 
-pub groups_none : (left least : ℕ) (s : List ℕ) (at : ℕ) → left ≡ 0 → groupsAt left least s at ≡ Long
-unfolding groupsAt
+pub groups_none : (left least : ℕ) (s : List ℕ) (at : ℕ) → left ≡ 0 → groups_at left least s at ≡ Long
+unfolding groups_at
 groups_none left least s at e = rw e
 
 pub one_less : {left : ℕ} → (left ≡ 0 → ⊥) → left ≡ suc (left - 1)
 one_less some = omega arith
 
 module _ (left rest least : ℕ) (s : List ℕ) (at : ℕ) (some : left ≡ suc rest) where
-  pub groups-cut : length s ≤ at → groupsAt left least s at ≡ Cut
-  unfolding groupsAt
-  groups-cut h = rw some (simp (le-ltb _ _ h))
+  pub groups_cut : length s ≤ at → groups_at left least s at ≡ Cut
+  unfolding groups_at
+  groups_cut h = rw some (simp (le-ltb _ _ h))
 
-  pub groups-short : at < length s → get_or s at 0 < 128 → get_or s at 0 < least → groupsAt left least s at ≡ Long
-  unfolding groupsAt
-  groups-short h l z = rw some (simp (lt-ltb _ _ h, lt-ltb _ _ l, lt-ltb _ _ z))
+  pub groups_short : at < length s → get_or s at 0 < 128 → get_or s at 0 < least → groups_at left least s at ≡ Long
+  unfolding groups_at
+  groups_short h l z = rw some (simp (lt-ltb _ _ h, lt-ltb _ _ l, lt-ltb _ _ z))
 
-  pub groups-last : at < length s → get_or s at 0 < 128 → least ≤ get_or s at 0 → groupsAt left least s at ≡ Value (get_or s at 0) (at + 1)
-  unfolding groupsAt
-  groups-last h l z = rw some (simp (lt-ltb _ _ h, lt-ltb _ _ l, le-ltb _ _ z))
+  pub groups_last : at < length s → get_or s at 0 < 128 → least ≤ get_or s at 0 → groups_at left least s at ≡ Value (get_or s at 0) (at + 1)
+  unfolding groups_at
+  groups_last h l z = rw some (simp (lt-ltb _ _ h, lt-ltb _ _ l, le-ltb _ _ z))
 
-  pub groups-more : {r : Grouped} → at < length s → 128 ≤ get_or s at 0 → r ≡ groupsAt rest 1 s (at + 1)
-      → groupsAt left least s at ≡ onto (get_or s at 0 % 128) r
-  unfolding groupsAt
-  groups-more h l e = rw (some, e) (simp (lt-ltb _ _ h, le-ltb _ _ l))
+  pub groups_more : {r : Grouped} → at < length s → 128 ≤ get_or s at 0 → r ≡ groups_at rest 1 s (at + 1)
+      → groups_at left least s at ≡ onto (get_or s at 0 % 128) r
+  unfolding groups_at
+  groups_more h l e = rw (some, e) (simp (lt-ltb _ _ h, le-ltb _ _ l))
 
 -- ---- what an accepted number is
 
@@ -56,10 +56,10 @@ pub data Accepted (s : List ℕ) : ℕ → ℕ → ℕ → ℕ → ℕ → Type 
   more : {left least at value next : ℕ} (above : ℕ) → at < length s → 128 ≤ get_or s at 0
       → value ≡ get_or s at 0 % 128 + 128 * above → Accepted s left 1 (at + 1) above next → Accepted s (suc left) least at value next
 
-module _ (s : List ℕ) (left least at v n : ℕ) (rest : (w : ℕ) → groupsAt left 1 s (at + 1) ≡ Value w n → Accepted s left 1 (at + 1) w n) where
-  -- each test of `groupsAt` with its answer
+module _ (s : List ℕ) (left least at v n : ℕ) (rest : (w : ℕ) → groups_at left 1 s (at + 1) ≡ Value w n → Accepted s left 1 (at + 1) w n) where
+  -- each test of `groups_at` with its answer
   tests : (here : Bool) → ltb at (length s) ≡ here → (last : Bool) → ltb (get_or s at 0) 128 ≡ last
-      → (short : Bool) → ltb (get_or s at 0) least ≡ short → (r : Grouped) → groupsAt left 1 s (at + 1) ≡ r
+      → (short : Bool) → ltb (get_or s at 0) least ≡ short → (r : Grouped) → groups_at left 1 s (at + 1) ≡ r
       → pick here (pick last (pick short Long (Value (get_or s at 0) (at + 1))) (onto (get_or s at 0 % 128) r)) Cut ≡ Value v n
       → Accepted s (suc left) least at v n
   tests false h last l short z r e q = never (cc)
@@ -70,66 +70,66 @@ module _ (s : List ℕ) (left least at v n : ℕ) (rest : (w : ℕ) → groupsAt
   tests true h false l short z Long e q = never (cc)
 
 module _ (s : List ℕ) where
-  pub accepted : (left least at v n : ℕ) → groupsAt left least s at ≡ Value v n → Accepted s left least at v n
-  unfolding groupsAt
+  pub accepted : (left least at v n : ℕ) → groups_at left least s at ≡ Value v n → Accepted s left least at v n
+  unfolding groups_at
   accepted zero least at v n q = never (cc)
   accepted (suc left) least at v n q = tests s left least at v n (λ w e. accepted left 1 (at + 1) w n e) _ refl _ refl _ refl _ refl q
 
-  pub accepted-groups : {left least at v n : ℕ} → Accepted s left least at v n → groupsAt left least s at ≡ Value v n
-  accepted-groups (ended h l z e m) = groups-last _ _ _ _ _ refl h l z ∙ rw (e, m)
-  accepted-groups (more w h l e a) = groups-more _ _ _ _ _ refl h l (sym (accepted-groups a)) ∙ rw e
+  pub accepted_groups : {left least at v n : ℕ} → Accepted s left least at v n → groups_at left least s at ≡ Value v n
+  accepted_groups (ended h l z e m) = groups_last _ _ _ _ _ refl h l z ∙ rw (e, m)
+  accepted_groups (more w h l e a) = groups_more _ _ _ _ _ refl h l (sym (accepted_groups a)) ∙ rw e
 
   -- a number of at most `left` groups is below 128 to that power
-  accepted-below : (left : ℕ) {least at v n : ℕ} → Accepted s left least at v n → v < 128 ^ left
-  accepted-below (suc left) (ended h l z e m) = omega (arith, one-le-pow left 128 (omega arith))
-  accepted-below (suc left) (more w h l e a) = omega (arith, accepted-below left a)
+  accepted_below : (left : ℕ) {least at v n : ℕ} → Accepted s left least at v n → v < 128 ^ left
+  accepted_below (suc left) (ended h l z e m) = omega (arith, one-le-pow left 128 (omega arith))
+  accepted_below (suc left) (more w h l e a) = omega (arith, accepted_below left a)
 
   -- the groups above the lowest leave room for it in 32 bits
-  pub groups-room : (left least at v n : ℕ) → left ≤ 3 → groupsAt left least s at ≡ Value v n → v < 2097152
-  groups-room left least at v n h q =
-      lt_of_lt_of_le (accepted-below left (accepted left least at v n q)) (pow-le-pow_right (lit< tt) h)
+  pub groups_room : (left least at v n : ℕ) → left ≤ 3 → groups_at left least s at ≡ Value v n → v < 2097152
+  groups_room left least at v n h q =
+      lt_of_lt_of_le (accepted_below left (accepted left least at v n q)) (pow-le-pow_right (lit< tt) h)
 
   -- the place past it is further on, and within the bytes
-  accepted-past : {left least at v n : ℕ} → Accepted s left least at v n → (at < n) × (n ≤ at + left) × (n ≤ length s)
-  accepted-past (ended h l z e m) = omega arith
-  accepted-past (more w h l e a) = omega (arith, accepted-past a)
+  accepted_past : {left least at v n : ℕ} → Accepted s left least at v n → (at < n) × (n ≤ at + left) × (n ≤ length s)
+  accepted_past (ended h l z e m) = omega arith
+  accepted_past (more w h l e a) = omega (arith, accepted_past a)
 
   -- where the last byte is not 0, neither is the number
-  pub accepted-one : {left at v n : ℕ} → Accepted s left 1 at v n → 1 ≤ v
-  accepted-one (ended h l z e m) = omega arith
-  accepted-one (more w h l e a) = omega (arith, accepted-one a)
+  pub accepted_one : {left at v n : ℕ} → Accepted s left 1 at v n → 1 ≤ v
+  accepted_one (ended h l z e m) = omega arith
+  accepted_one (more w h l e a) = omega (arith, accepted_one a)
 
   -- a number of two bytes or more is 128 or more, and has four at most
-  accepted-short : {least at v n : ℕ} → Accepted s 4 least at v n → n ≤ at + max 1 v
-  accepted-short (ended h l z e m) = omega arith
-  accepted-short (more w h l e a) = omega (arith, accepted-past a, accepted-one a)
+  accepted_short : {least at v n : ℕ} → Accepted s 4 least at v n → n ≤ at + max 1 v
+  accepted_short (ended h l z e m) = omega arith
+  accepted_short (more w h l e a) = omega (arith, accepted_past a, accepted_one a)
 
 -- ---- a number is at most four groups
 
-pub number-groups : (s : List ℕ) (at : ℕ) {r : Grouped} → r ≡ groupsAt 4 0 s at → numberAt s at ≡ out_of (length s) at r
-unfolding numberAt
-number-groups s at e = rw e
+pub number_groups : (s : List ℕ) (at : ℕ) {r : Grouped} → r ≡ groups_at 4 0 s at → number_at s at ≡ out_of (length s) at r
+unfolding number_at
+number_groups s at e = rw e
 
 -- a byte below 128 is a number by itself
-pub number_small : (s : List ℕ) (at : ℕ) → at < length s → get_or s at 0 < 128 → numberAt s at ≡ got (get_or s at 0) (at + 1)
-number_small s at h l = number-groups s at (sym (groups-last 4 3 0 s at refl h l (omega arith)))
+pub number_small : (s : List ℕ) (at : ℕ) → at < length s → get_or s at 0 < 128 → number_at s at ≡ got (get_or s at 0) (at + 1)
+number_small s at h l = number_groups s at (sym (groups_last 4 3 0 s at refl h l (omega arith)))
 
-number-value : (bytes at v n : ℕ) (r : Grouped) → out_of bytes at r ≡ got v n → r ≡ Value v n
-number-value bytes at v n (Value w m) e = cc
-number-value bytes at v n Cut e = never (cc)
-number-value bytes at v n Long e = never (cc)
+number_value : (bytes at v n : ℕ) (r : Grouped) → out_of bytes at r ≡ got v n → r ≡ Value v n
+number_value bytes at v n (Value w m) e = cc
+number_value bytes at v n Cut e = never (cc)
+number_value bytes at v n Long e = never (cc)
 
 -- what callers use of a number that was read
-module _ (s : List ℕ) (at v n : ℕ) (q : numberAt s at ≡ got v n) where
-  pub number-accepted : Accepted s 4 0 at v n
-  unfolding numberAt
-  number-accepted = accepted s 4 0 at v n (number-value (length s) at v n _ q)
+module _ (s : List ℕ) (at v n : ℕ) (q : number_at s at ≡ got v n) where
+  pub number_accepted : Accepted s 4 0 at v n
+  unfolding number_at
+  number_accepted = accepted s 4 0 at v n (number_value (length s) at v n _ q)
 
   pub number_past : (at < n) × (n ≤ at + 4) × (n ≤ length s)
-  number_past = accepted-past s number-accepted
+  number_past = accepted_past s number_accepted
 
-  pub number-below : v < 268435456
-  number-below = accepted-below s 4 number-accepted
+  pub number_below : v < 268435456
+  number_below = accepted_below s 4 number_accepted
 
   pub number_short : n ≤ at + max 1 v
-  number_short = accepted-short s number-accepted
+  number_short = accepted_short s number_accepted

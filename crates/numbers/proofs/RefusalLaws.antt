@@ -3,20 +3,20 @@ use Prim.Native.Nat.{◌≤◌}
 use native.Mathlib.Omega.{arith}
 use Rattle.numbers.specs.declared.refusals.Refusal.{Refusal}
 use Rattle.numbers.specs.declared.refusals.Refusal.TheVariants.{Cut, Long, Version, Outside, NotAbove, After}
-use Rattle.numbers.specs.Refusals.{toldOf}
+use Rattle.numbers.specs.Refusals.{told_of}
 
-pub told-from-1 : (r : Refusal) → 1 ≤ (toldOf r).number
-told-from-1 (Cut bytes) = omega arith
-told-from-1 (Long at) = omega arith
-told-from-1 Version = omega arith
-told-from-1 (Outside at) = omega arith
-told-from-1 (NotAbove at) = omega arith
-told-from-1 (After at) = omega arith
+pub told_from_1 : (r : Refusal) → 1 ≤ (told_of r).number
+told_from_1 (Cut bytes) = omega arith
+told_from_1 (Long at) = omega arith
+told_from_1 Version = omega arith
+told_from_1 (Outside at) = omega arith
+told_from_1 (NotAbove at) = omega arith
+told_from_1 (After at) = omega arith
 
-pub told-to-6 : (r : Refusal) → (toldOf r).number ≤ 6
-told-to-6 (Cut bytes) = omega arith
-told-to-6 (Long at) = omega arith
-told-to-6 Version = omega arith
-told-to-6 (Outside at) = omega arith
-told-to-6 (NotAbove at) = omega arith
-told-to-6 (After at) = omega arith
+pub told_to_6 : (r : Refusal) → (told_of r).number ≤ 6
+told_to_6 (Cut bytes) = omega arith
+told_to_6 (Long at) = omega arith
+told_to_6 Version = omega arith
+told_to_6 (Outside at) = omega arith
+told_to_6 (NotAbove at) = omega arith
+told_to_6 (After at) = omega arith

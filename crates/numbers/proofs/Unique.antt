@@ -11,9 +11,9 @@ use borrow.Fn.Kinds.{ParamKind, ResultKind, Out, Dens, res_t, ended_of}
 use Rattle.numbers.specs.declared.refusals.Refusal.{Refusal}
 use Rattle.numbers.specs.declared.refusals.Told.{Told}
 use Rattle.numbers.specs.declared.reading.Read.{Read}
-use Rattle.numbers.specs.Refusals.{toldOf}
-use Rattle.numbers.specs.Reading.{numberAt, read_of}
-use Rattle.numbers.specs.Writing.{bytes_of, putNext, putInto}
+use Rattle.numbers.specs.Refusals.{told_of}
+use Rattle.numbers.specs.Reading.{number_at, read_of}
+use Rattle.numbers.specs.Writing.{bytes_of, put_next, put_into}
 use Rattle.numbers.proofs.refusals.tell.Reads as tell
 use Rattle.numbers.proofs.refusals.tell.Kinds as tell-kinds
 use Rattle.numbers.proofs.reading.number.Reads as number
@@ -29,21 +29,21 @@ same p q = p ∙ sym q
 
 -- ---- in the contracts' text
 
-pub tell-unique : (refusal : Refusal) (r r' : Told) → r ≡ toldOf refusal → r' ≡ toldOf refusal → r ≡ r'
-tell-unique refusal r r' = same
+pub tell_unique : (refusal : Refusal) (r r' : Told) → r ≡ told_of refusal → r' ≡ told_of refusal → r ≡ r'
+tell_unique refusal r r' = same
 
-pub number-unique : (src : List ℕ) (at : ℕ) (r r' : Read) → r ≡ read_of (numberAt src at) → r' ≡ read_of (numberAt src at) → r ≡ r'
-number-unique src at r r' = same
+pub number_unique : (src : List ℕ) (at : ℕ) (r r' : Read) → r ≡ read_of (number_at src at) → r' ≡ read_of (number_at src at) → r ≡ r'
+number_unique src at r r' = same
 
-pub width-unique : (value r r' : ℕ) → r ≡ length (bytes_of value) → r' ≡ length (bytes_of value) → r ≡ r'
-width-unique value r r' = same
+pub width_unique : (value r r' : ℕ) → r ≡ length (bytes_of value) → r' ≡ length (bytes_of value) → r ≡ r'
+width_unique value r r' = same
 
 -- the answer and every byte of the slice
-pub put-number-unique : (dst : List ℕ) (at value r r' : ℕ) (exit exit' : List ℕ)
-    → (r ≡ putNext dst at value) × (exit ≡ putInto dst at value)
-    → (r' ≡ putNext dst at value) × (exit' ≡ putInto dst at value)
+pub put_number_unique : (dst : List ℕ) (at value r r' : ℕ) (exit exit' : List ℕ)
+    → (r ≡ put_next dst at value) × (exit ≡ put_into dst at value)
+    → (r' ≡ put_next dst at value) × (exit' ≡ put_into dst at value)
     → (r ≡ r') × (exit ≡ exit')
-put-number-unique dst at value r r' exit exit' p q = (same p.0 q.0, same p.1 q.1)
+put_number_unique dst at value r r' exit exit' p q = (same p.0 q.0, same p.1 q.1)
 
 -- ---- and these are the contracts
 
@@ -53,16 +53,16 @@ Fixes {n} ps r Post =
     (κs : Lfts n) (a : Dens κs ps) (x x' : (res_t r κs).Denot) (s s' : AtExit (ended_of n ps r) κs)
     → Post κs a x s → Post κs a x' s' → x ≡ x'
 
-pub tell-fixes : Fixes tell-kinds.ps tell-kinds.r tell.Post
-tell-fixes κs a x x' s s' = tell-unique a.0 x x'
+pub tell_fixes : Fixes tell-kinds.ps tell-kinds.r tell.Post
+tell_fixes κs a x x' s s' = tell_unique a.0 x x'
 
-pub number-fixes : Fixes number-kinds.ps number-kinds.r number.Post
-number-fixes κs a x x' s s' = number-unique a.0.now a.1.0 x x'
+pub number_fixes : Fixes number-kinds.ps number-kinds.r number.Post
+number_fixes κs a x x' s s' = number_unique a.0.now a.1.0 x x'
 
-pub width-fixes : Fixes width-kinds.ps width-kinds.r width.Post
-width-fixes κs a x x' s s' = width-unique a.0 x x'
+pub width_fixes : Fixes width-kinds.ps width-kinds.r width.Post
+width_fixes κs a x x' s s' = width_unique a.0 x x'
 
-pub put-number-fixes : (κs : Lfts 1) (a : Dens κs put-number-kinds.ps) (x x' : ℕ)
+pub put_number_fixes : (κs : Lfts 1) (a : Dens κs put-number-kinds.ps) (x x' : ℕ)
     (s s' : AtExit (ended_of 1 put-number-kinds.ps put-number-kinds.r) κs)
     → put-number.Post κs a x s → put-number.Post κs a x' s' → (x ≡ x') × (s.0.now ≡ s'.0.now)
-put-number-fixes κs a x x' s s' = put-number-unique a.0.now a.1.0 a.1.1.0 x x' s.0.now s'.0.now
+put_number_fixes κs a x x' s s' = put_number_unique a.0.now a.1.0 a.1.1.0 x x' s.0.now s'.0.now

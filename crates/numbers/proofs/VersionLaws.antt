@@ -1,7 +1,7 @@
 -- Laws of the version that a file begins with.
---     version-one, -other, -bad    what `versionAt` gives, one law for each way that it goes
---     version-got                  what is known of a version that was read
---     version-number, -past        it is a number that was read, and takes one byte
+--     version_one, _other, _bad    what `version_at` gives, one law for each way that it goes
+--     version_got                  what is known of a version that was read
+--     version_number, _past        it is a number that was read, and takes one byte
 use mathlib.Core.Path.{◌≡◌, refl, ◌∙◌}
 use mathlib.Core.List.{List}
 use mathlib.Core.Bool.{Bool, true, false}
@@ -12,22 +12,22 @@ use lib.ListN.{length}
 use lib.Dec.{eqb}
 use Rattle.numbers.specs.declared.refusals.Refusal.{Refusal}
 use Rattle.numbers.specs.declared.refusals.Refusal.TheVariants.{Version}
-use Rattle.numbers.specs.Reading.{got, bad, pick, numberAt, versionAt}
+use Rattle.numbers.specs.Reading.{got, bad, pick, number_at, version_at}
 use Rattle.numbers.proofs.ReadingLaws.{never, parts}
 use Rattle.numbers.proofs.NumberLaws.{number_past, number_short}
 
 module _ (s : List ℕ) where
-  pub version-one : {v n : ℕ} → numberAt s 0 ≡ got v n → v ≡ 1 → versionAt s ≡ got v n
-  unfolding versionAt
-  version-one q h = rw q (simp (eq-eqb _ _ h))
+  pub version_one : {v n : ℕ} → number_at s 0 ≡ got v n → v ≡ 1 → version_at s ≡ got v n
+  unfolding version_at
+  version_one q h = rw q (simp (eq-eqb _ _ h))
 
-  pub version-other : {v n : ℕ} → numberAt s 0 ≡ got v n → (v ≡ 1 → ⊥) → versionAt s ≡ bad Version
-  unfolding versionAt
-  version-other q h = rw q (simp (ne_eqb _ _ h))
+  pub version_other : {v n : ℕ} → number_at s 0 ≡ got v n → (v ≡ 1 → ⊥) → version_at s ≡ bad Version
+  unfolding version_at
+  version_other q h = rw q (simp (ne_eqb _ _ h))
 
-  pub version-bad : {r : Refusal} → numberAt s 0 ≡ bad r → versionAt s ≡ bad r
-  unfolding versionAt
-  version-bad q = rw q
+  pub version_bad : {r : Refusal} → number_at s 0 ≡ bad r → version_at s ≡ bad r
+  unfolding version_at
+  version_bad q = rw q
 
   -- ---- what is known of a version that was read
 
@@ -37,18 +37,18 @@ module _ (s : List ℕ) where
       (h, omega (arith, eqb-true w 1 e))
   one_in w m v n false e h = never (cc)
 
-  pub version-got : (v n : ℕ) → versionAt s ≡ got v n → (v ≡ 1) × (0 < n) × (n ≤ length s)
-  unfolding versionAt
-  version-got v n h =
-      let p = parts (numberAt s 0) _ v n h in
+  pub version_got : (v n : ℕ) → version_at s ≡ got v n → (v ≡ 1) × (0 < n) × (n ≤ length s)
+  unfolding version_at
+  version_got v n h =
+      let p = parts (number_at s 0) _ v n h in
       let k = one_in p.first p.place v n _ refl p.rest in
       omega (arith, k.1, number_past s 0 v n (cc))
 
-  pub version-number : (v n : ℕ) → versionAt s ≡ got v n → numberAt s 0 ≡ got v n
-  unfolding versionAt
-  version-number v n h =
-      let p = parts (numberAt s 0) _ v n h in
+  pub version_number : (v n : ℕ) → version_at s ≡ got v n → number_at s 0 ≡ got v n
+  unfolding version_at
+  version_number v n h =
+      let p = parts (number_at s 0) _ v n h in
       p.was ∙ (one_in p.first p.place v n _ refl p.rest).0
 
-  pub version-past : (v n : ℕ) → versionAt s ≡ got v n → n ≡ 1
-  version-past v n h = omega (arith, version-got v n h, number_short s 0 v n (version-number v n h))
+  pub version_past : (v n : ℕ) → version_at s ≡ got v n → n ≡ 1
+  version_past v n h = omega (arith, version_got v n h, number_short s 0 v n (version_number v n h))

@@ -33,13 +33,13 @@ onto low grouped.Long = grouped.Long
 
 -- What stands from `at` on, where at most `left` more bytes may belong to the number and its last byte is at least `least`.
 -- No byte may be left: too long. No byte is there: cut. A byte below 128 ends the number. Any other gives seven bits and goes on.
-unfoldable pub groupsAt : ℕ → ℕ → List ℕ → ℕ → Grouped
-groupsAt zero least s at = grouped.Long
-groupsAt (suc left) least s at =
+unfoldable pub groups_at : ℕ → ℕ → List ℕ → ℕ → Grouped
+groups_at zero least s at = grouped.Long
+groups_at (suc left) least s at =
     pick (ltb at (length s))
     (pick (ltb (get_or s at 0) 128)
     (pick (ltb (get_or s at 0) least) grouped.Long (grouped.Value (get_or s at 0) (at + 1)))
-    (onto (get_or s at 0 % 128) (groupsAt left 1 s (at + 1))))
+    (onto (get_or s at 0 % 128) (groups_at left 1 s (at + 1))))
     grouped.Cut
 
 -- of a number at `at`, in a file of so many bytes: 1 where these end, 2 where the number is too long or not shortest
@@ -50,18 +50,18 @@ out_of bytes at grouped.Long = bad (refusal.Long at)
 
 -- A number is one to four bytes, seven bits each, the least significant group first, the top bit set on all but the last byte.
 -- Of two bytes or more the last is not 0: only the shortest form is a number.
-unfoldable pub numberAt : List ℕ → ℕ → Out ℕ
-numberAt s at = out_of (length s) at (groupsAt 4 0 s at)
+unfoldable pub number_at : List ℕ → ℕ → Out ℕ
+number_at s at = out_of (length s) at (groups_at 4 0 s at)
 
 -- a number that is at least `low` and below `end`: else 4
 unfoldable pub field_at : List ℕ → ℕ → ℕ → ℕ → Out ℕ
 field_at s at low end =
-    then (numberAt s at) λ value next.
+    then (number_at s at) λ value next.
     pick (ltb value low) (bad (refusal.Outside at)) (pick (ltb value end) (got value next) (bad (refusal.Outside at)))
 
 -- a file begins with its version, which is 1: else 3
-unfoldable pub versionAt : List ℕ → Out ℕ
-versionAt s = then (numberAt s 0) λ value next. pick (eqb value 1) (got value next) (bad refusal.Version)
+unfoldable pub version_at : List ℕ → Out ℕ
+version_at s = then (number_at s 0) λ value next. pick (eqb value 1) (got value next) (bad refusal.Version)
 
 -- ---- what the code answers
 

@@ -13,13 +13,13 @@ unfoldable pub bytes_of : ℕ → List ℕ
 bytes_of value = groups_of 4 value
 
 -- value is a number, and its bytes have room at `at`
-unfoldable pub hasRoom : List ℕ → ℕ → ℕ → Bool
-hasRoom d at value = pick (ltb value 268435456) (leb (at + length (bytes_of value)) (length d)) false
+unfoldable pub has_room : List ℕ → ℕ → ℕ → Bool
+has_room d at value = pick (ltb value 268435456) (leb (at + length (bytes_of value)) (length d)) false
 
 -- the place past the number, or `at` where it was not written
-unfoldable pub putNext : List ℕ → ℕ → ℕ → ℕ
-putNext d at value = pick (hasRoom d at value) (at + length (bytes_of value)) at
+unfoldable pub put_next : List ℕ → ℕ → ℕ → ℕ
+put_next d at value = pick (has_room d at value) (at + length (bytes_of value)) at
 
 -- the slice with the number in it, or as it was
-unfoldable pub putInto : List ℕ → ℕ → ℕ → List ℕ
-putInto d at value = pick (hasRoom d at value) (sets d at (bytes_of value)) d
+unfoldable pub put_into : List ℕ → ℕ → ℕ → List ℕ
+put_into d at value = pick (has_room d at value) (sets d at (bytes_of value)) d

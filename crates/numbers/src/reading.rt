@@ -1,6 +1,6 @@
 // Reading numbers: the number at a place of the bytes, with the place past it; the first fault wins.
 ghost use Rattle.std.specs.Prelude.{◌≡◌, ◌≤◌};
-ghost use Rattle.numbers.specs.Reading.{groupsAt, numberAt, read_of};
+ghost use Rattle.numbers.specs.Reading.{groups_at, number_at, read_of};
 
 use crate::refusals::Refusal;
 
@@ -22,7 +22,7 @@ pub enum Read {
 // The rest of a number from `at` on, of which at most `left` bytes may still come. Its last byte is at least `least`.
 fn groups(src: &[u8], at: usize, left: u32, least: u32) -> Grouped
     requires { left ≤ 4 }
-    ensures { result ≡ groupsAt left least src.now at }
+    ensures { result ≡ groups_at left least src.now at }
 {
     if left == 0 {
         return Grouped::Long;
@@ -52,7 +52,7 @@ fn groups(src: &[u8], at: usize, left: u32, least: u32) -> Grouped
 
 // The number that stands at `at`. A byte below 128 is a number by itself, and most numbers of a table are such: they are told first.
 pub fn number(src: &[u8], at: usize) -> Read
-    ensures { result ≡ read_of (numberAt src.now at) }
+    ensures { result ≡ read_of (number_at src.now at) }
 {
     if at < src.len() {
         let b = src[at] as u32;

@@ -1,6 +1,6 @@
 // The refusals of a file: 1 to 6 of document 01's table, each with what its value says.
 ghost use Rattle.std.specs.Prelude.{◌≡◌};
-ghost use Rattle.numbers.specs.Refusals.{toldOf};
+ghost use Rattle.numbers.specs.Refusals.{told_of};
 
 // Why a file is refused. Places are counted in bytes, from 0.
 #[derive(Drop)]
@@ -28,7 +28,7 @@ pub struct Told {
 
 // The number and the value of a refusal.
 pub fn tell(refusal: Refusal) -> Told
-    ensures { result ≡ toldOf refusal }
+    ensures { result ≡ told_of refusal }
 {
     match refusal {
         Refusal::Cut { length } => Told {

@@ -1,7 +1,7 @@
 // Writing numbers, in their shortest form.
 ghost use Rattle.std.specs.Prelude.{◌≡◌, ◌+◌, ◌≤◌, ◌<◌, length};
 ghost use Rattle.std.proofs.lemmas.List.Edits.{sets};
-ghost use Rattle.numbers.specs.Writing.{bytes_of, putNext, putInto};
+ghost use Rattle.numbers.specs.Writing.{bytes_of, put_next, put_into};
 
 // How many bytes a value takes; four for one that is no number.
 pub fn width(value: u32) -> usize
@@ -35,7 +35,7 @@ fn put(dst: &mut [u8], at: usize, value: u32)
 
 // Writes a number at `at` and gives the place past it. Where it is no number or has no room, nothing is written and the place is `at`.
 pub fn put_number(dst: &mut [u8], at: usize, value: u32) -> usize
-    ensures { (result ≡ putNext dst.old at value) × (dst.new ≡ putInto dst.old at value) }
+    ensures { (result ≡ put_next dst.old at value) × (dst.new ≡ put_into dst.old at value) }
 {
     if 268435456 <= value {
         return at;

@@ -4,7 +4,7 @@ ghost use Rattle.store.specs.Marking.{room};
 ghost use Rattle.positions.specs.Plans.{Planned};
 ghost use Rattle.uses.specs.Ranges.{RowIn, RowsIn};
 ghost use Rattle.uses.specs.Passing.{Swept};
-ghost use Rattle.uses.specs.RuleUses.{PushUse, PopUse, uMost, vMost, KindIn, RowUse, RowUses};
+ghost use Rattle.uses.specs.RuleUses.{PushUse, PopUse, u_most, v_most, KindIn, RowUse, RowUses};
 
 use positions::plan::{Plan, p_position, pair_of, q_position};
 use store::rows::{Row, row_at};
@@ -77,7 +77,7 @@ pub fn rows_of(
     put: bool,
     pass: Pass,
 ) -> Pass
-    requires { Planned s × (t < s.n) × (a < s.k) × RowsIn s (uMost kind s) (vMost kind s) rows.now n × (s.w ≤ room mem.old) }
+    requires { Planned s × (t < s.n) × (a < s.k) × RowsIn s (u_most kind s) (v_most kind s) rows.now n × (s.w ≤ room mem.old) }
     ensures { Swept (RowUses kind s t a rows.now n) put pass result mem.old mem.new }
 {
     let mut sofar = pass;

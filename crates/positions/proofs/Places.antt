@@ -5,69 +5,69 @@ use Prim.Native.Nat.{ℕ, ◌+◌, ◌*◌, ◌/◌, ◌%◌, ◌<◌, ◌≤◌
 use native.Mathlib.Nat.{mul-le-mul, mod-lt, mul-le-mul_right, div-lt_iff_lt-mul}
 use native.Mathlib.Omega.{arith}
 use lib.Arith.{digits_lt}
-use Rattle.model.proofs.Positions.{right-pos}
+use Rattle.model.proofs.Positions.{right_pos}
 use Rattle.positions.specs.declared.plan.Plan.{Plan}
-use Rattle.positions.specs.Plans.{Planned, pair, p_at, pFrom, qFrom, gAt}
+use Rattle.positions.specs.Plans.{Planned, pair, p_at, p_from, q_from, g_at}
 
 module _ {s : Plan} (h : Planned s) where
   pub pair_lt : {g l : ℕ} → g < s.g → l < s.l → pair s g l < s.k
   pair_lt a b = omega (arith, digits_lt a b, h.k)
 
-  pub p-line : {t c j : ℕ} → t < s.n → c < s.k → j < s.k → p_at s t c + j * s.k < s.q
-  p-line a b c = omega (arith, digits_lt (digits_lt a c) b, h.q)
+  pub p_line : {t c j : ℕ} → t < s.n → c < s.k → j < s.k → p_at s t c + j * s.k < s.q
+  p_line a b c = omega (arith, digits_lt (digits_lt a c) b, h.q)
 
   -- a stretch of P facts
-  pub p-stretch : {t a : ℕ} → t < s.n → a < s.k → pFrom s t a + s.k ≤ s.q
-  p-stretch {t} {a} x y = omega (arith, mul-le-mul_right s.k (digits_lt x y), h.q)
+  pub p_stretch : {t a : ℕ} → t < s.n → a < s.k → p_from s t a + s.k ≤ s.q
+  p_stretch {t} {a} x y = omega (arith, mul-le-mul_right s.k (digits_lt x y), h.q)
 
   -- the stretches of Q facts from a pair, and one of them
-  pub q-stretches : {t a : ℕ} → t < s.n → a < s.k → qFrom s t a + s.f * s.k ≤ s.w
-  q-stretches {t} {a} x y = omega (arith, mul-le-mul_right (s.f * s.k) (digits_lt x y), h.w)
+  pub q_stretches : {t a : ℕ} → t < s.n → a < s.k → q_from s t a + s.f * s.k ≤ s.w
+  q_stretches {t} {a} x y = omega (arith, mul-le-mul_right (s.f * s.k) (digits_lt x y), h.w)
 
-  pub q-stretch : {f : ℕ} → f < s.f → f * s.k + s.k ≤ s.f * s.k
-  q-stretch {f} x = omega (arith, mul-le-mul_right s.k x)
+  pub q_stretch : {f : ℕ} → f < s.f → f * s.k + s.k ≤ s.f * s.k
+  q_stretch {f} x = omega (arith, mul-le-mul_right s.k x)
 
   -- a fact in its stretch
-  pub p-lt : {t a c : ℕ} → t < s.n → a < s.k → c < s.k → pFrom s t a + c < s.w
-  p-lt x y z = omega (arith, p-stretch x y, h.w)
+  pub p_lt : {t a c : ℕ} → t < s.n → a < s.k → c < s.k → p_from s t a + c < s.w
+  p_lt x y z = omega (arith, p_stretch x y, h.w)
 
-  pub q-lt : {t a f c : ℕ} → t < s.n → a < s.k → f < s.f → c < s.k → qFrom s t a + f * s.k + c < s.w
-  q-lt x y z u = omega (arith, q-stretches x y, q-stretch z)
+  pub q_lt : {t a f c : ℕ} → t < s.n → a < s.k → f < s.f → c < s.k → q_from s t a + f * s.k + c < s.w
+  q_lt x y z u = omega (arith, q_stretches x y, q_stretch z)
 
-  pub g-lt : {t g g' : ℕ} → t < s.n → g < s.g → g' < s.g → gAt s t g g' < s.p
-  g-lt a b c = omega (arith, digits_lt (digits_lt a b) c, h.p)
+  pub g_lt : {t g g' : ℕ} → t < s.n → g < s.g → g' < s.g → g_at s t g g' < s.p
+  g_lt a b c = omega (arith, digits_lt (digits_lt a b) c, h.p)
 
   pub parts : (s.p ≤ s.q) × (s.q ≤ s.w)
   parts = (omega (arith, h.q), omega (arith, h.w))
 
   -- what the sums are made of is small
   pub pair_small : {g : ℕ} → g < s.g → g * s.l ≤ 256
-  pair_small {g} a = mul-le-mul {n₁ = g} {n₂ = 16} {m₂ = 16} (omega (arith, h.g-max)) h.l-max
+  pair_small {g} a = mul-le-mul {n₁ = g} {n₂ = 16} {m₂ = 16} (omega (arith, h.g_max)) h.l_max
 
-  pub p-small : {t : ℕ} → t < s.n → (t * s.k ≤ 1024) × (t * s.k * s.k ≤ 262144)
-  p-small {t} a =
-      let b = mul-le-mul {n₁ = t} {n₂ = 4} {m₂ = 256} (omega (arith, h.n-max)) h.k-max in
-      (b, mul-le-mul {n₁ = t * s.k} {n₂ = 1024} {m₂ = 256} b h.k-max)
+  pub p_small : {t : ℕ} → t < s.n → (t * s.k ≤ 1024) × (t * s.k * s.k ≤ 262144)
+  p_small {t} a =
+      let b = mul-le-mul {n₁ = t} {n₂ = 4} {m₂ = 256} (omega (arith, h.n_max)) h.k_max in
+      (b, mul-le-mul {n₁ = t * s.k} {n₂ = 1024} {m₂ = 256} b h.k_max)
 
-  pub stretch-small : {t a : ℕ} → t < s.n → a < s.k → (t * s.k ≤ 1024) × ((t * s.k + a) * s.k ≤ 327680) × (s.f * s.k ≤ 2048)
+  pub stretch_small : {t a : ℕ} → t < s.n → a < s.k → (t * s.k ≤ 1024) × ((t * s.k + a) * s.k ≤ 327680) × (s.f * s.k ≤ 2048)
       × ((t * s.k + a) * (s.f * s.k) ≤ 2621440)
-  stretch-small {t} {a} x y =
-      let b : t * s.k + a ≤ 1280 = omega (arith, p-small x, h.k-max) in
-      let fk = mul-le-mul {n₂ = 8} {m₂ = 256} h.f-max h.k-max in (
-        (p-small x).0,
-        mul-le-mul {n₁ = t * s.k + a} {n₂ = 1280} {m₂ = 256} b h.k-max,
+  stretch_small {t} {a} x y =
+      let b : t * s.k + a ≤ 1280 = omega (arith, p_small x, h.k_max) in
+      let fk = mul-le-mul {n₂ = 8} {m₂ = 256} h.f_max h.k_max in (
+        (p_small x).0,
+        mul-le-mul {n₁ = t * s.k + a} {n₂ = 1280} {m₂ = 256} b h.k_max,
         fk,
         mul-le-mul {n₁ = t * s.k + a} {n₂ = 1280} {m₂ = 2048} b fk,
       )
 
-  pub g-small : {t g : ℕ} → t < s.n → g < s.g → (t * s.g ≤ 64) × ((t * s.g + g) * s.g ≤ 1280)
-  g-small {t} {g} a b =
-      let d = mul-le-mul {n₁ = t} {n₂ = 4} {m₂ = 16} (omega (arith, h.n-max)) h.g-max in
-      let e : t * s.g + g ≤ 80 = omega (arith, h.g-max) in
-      (d, mul-le-mul {n₁ = t * s.g + g} {n₂ = 80} {m₂ = 16} e h.g-max)
+  pub g_small : {t g : ℕ} → t < s.n → g < s.g → (t * s.g ≤ 64) × ((t * s.g + g) * s.g ≤ 1280)
+  g_small {t} {g} a b =
+      let d = mul-le-mul {n₁ = t} {n₂ = 4} {m₂ = 16} (omega (arith, h.n_max)) h.g_max in
+      let e : t * s.g + g ≤ 80 = omega (arith, h.g_max) in
+      (d, mul-le-mul {n₁ = t * s.g + g} {n₂ = 80} {m₂ = 16} e h.g_max)
 
-  pub ck-small : {c : ℕ} → c < s.k → c * s.k ≤ 65536
-  ck-small {c} a = mul-le-mul {n₁ = c} {n₂ = 256} {m₂ = 256} (omega (arith, h.k-max)) h.k-max
+  pub ck_small : {c : ℕ} → c < s.k → c * s.k ≤ 65536
+  ck_small {c} a = mul-le-mul {n₁ = c} {n₂ = 256} {m₂ = 256} (omega (arith, h.k_max)) h.k_max
 
   -- the pairs of one shared store
   pub cut : (m : ℕ) → m < s.g → m * s.l + s.l ≤ s.k
@@ -75,18 +75,18 @@ module _ {s : Plan} (h : Planned s) where
 
 -- the digits of the number of a Q fact
 pub record Called (s : Plan) (i : ℕ) : Type 0 where
-  pub k-pos : 0 < s.k
-  pub f-pos : 0 < s.f
+  pub k_pos : 0 < s.k
+  pub f_pos : 0 < s.f
   pub stretch : i / s.k < s.n * s.k * s.f
   pub t : i / s.k / s.f / s.k < s.n
   pub c : i % s.k < s.k
 
 pub called : {s : Plan} {i : ℕ} → Planned s → i < s.n * s.k * s.f * s.k → Called s i
 called {s} {i} h l =
-    let kp = right-pos (s.n * s.k * s.f) s.k l in
+    let kp = right_pos (s.n * s.k * s.f) s.k l in
     let r = (div-lt_iff_lt-mul kp).1 l in
-    let fp = right-pos (s.n * s.k) s.f r in
-    record { k-pos = kp; f-pos = fp; stretch = r; t = (div-lt_iff_lt-mul kp).1 ((div-lt_iff_lt-mul fp).1 r); c = mod-lt i kp }
+    let fp = right_pos (s.n * s.k) s.f r in
+    record { k_pos = kp; f_pos = fp; stretch = r; t = (div-lt_iff_lt-mul kp).1 ((div-lt_iff_lt-mul fp).1 r); c = mod-lt i kp }
 
 -- each product of the sizes on the way to w is small
 pub record Small (n g l f : ℕ) : Type 0 where

@@ -19,29 +19,29 @@ use Rattle.positions.proofs.plan.q_position.Kinds as q-position-kinds
 use Rattle.positions.proofs.plan.g_position.Reads as g-position
 use Rattle.positions.proofs.plan.g_position.Kinds as g-position-kinds
 
-pub plan-of-fixes : Fixes plan-of-kinds.ps plan-of-kinds.r plan-of.Post
-plan-of-fixes κs a x x' s s' p q = same p.0 q.0
+pub plan_of_fixes : Fixes plan-of-kinds.ps plan-of-kinds.r plan-of.Post
+plan_of_fixes κs a x x' s s' p q = same p.0 q.0
 
-pub plan-by-fixes : Fixes plan-by-kinds.ps plan-by-kinds.r plan-by.Post
-plan-by-fixes κs a x x' s s' p q = same p.0 q.0
+pub plan_by_fixes : Fixes plan-by-kinds.ps plan-by-kinds.r plan-by.Post
+plan_by_fixes κs a x x' s s' p q = same p.0 q.0
 
-pub pair-of-fixes : Fixes pair-of-kinds.ps pair-of-kinds.r pair_of.Post
-pair-of-fixes κs a x x' s s' p q = same p.0 q.0
+pub pair_of_fixes : Fixes pair-of-kinds.ps pair-of-kinds.r pair_of.Post
+pair_of_fixes κs a x x' s s' p q = same p.0 q.0
 
-pub p-at-fixes : Fixes p-at-kinds.ps p-at-kinds.r p-at.Post
-p-at-fixes κs a x x' s s' = same
+pub p_at_fixes : Fixes p-at-kinds.ps p-at-kinds.r p-at.Post
+p_at_fixes κs a x x' s s' = same
 
-pub p-from-fixes : Fixes p-from-kinds.ps p-from-kinds.r p-from.Post
-p-from-fixes κs a x x' s s' = same
+pub p_from_fixes : Fixes p-from-kinds.ps p-from-kinds.r p-from.Post
+p_from_fixes κs a x x' s s' = same
 
-pub q-from-fixes : Fixes q-from-kinds.ps q-from-kinds.r q-from.Post
-q-from-fixes κs a x x' s s' = same
+pub q_from_fixes : Fixes q-from-kinds.ps q-from-kinds.r q-from.Post
+q_from_fixes κs a x x' s s' = same
 
-pub p-position-fixes : Fixes p-position-kinds.ps p-position-kinds.r p-position.Post
-p-position-fixes κs a x x' s s' p q = same p.0 q.0
+pub p_position_fixes : Fixes p-position-kinds.ps p-position-kinds.r p-position.Post
+p_position_fixes κs a x x' s s' p q = same p.0 q.0
 
-pub q-position-fixes : Fixes q-position-kinds.ps q-position-kinds.r q-position.Post
-q-position-fixes κs a x x' s s' p q = same p.0 q.0
+pub q_position_fixes : Fixes q-position-kinds.ps q-position-kinds.r q-position.Post
+q_position_fixes κs a x x' s s' p q = same p.0 q.0
 
-pub g-position-fixes : Fixes g-position-kinds.ps g-position-kinds.r g-position.Post
-g-position-fixes κs a x x' s s' = same
+pub g_position_fixes : Fixes g-position-kinds.ps g-position-kinds.r g-position.Post
+g_position_fixes κs a x x' s s' = same

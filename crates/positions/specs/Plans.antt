@@ -1,7 +1,7 @@
 -- Where the facts stand, with the sizes of a table worked out once (01, "Working memory and claims"). The P facts of a thread from one pair stand
 -- side by side, one for each pair where a fact may end, and so do its Q facts from one pair with one frame: this is a stretch of facts.
 use Rattle.std.specs.Prelude.{◌≡◌, ℕ, ◌+◌, ◌*◌, ◌<◌, ◌≤◌}
-use Rattle.files.specs.Table.{Table, mostThreads, mostShared, mostLocals, mostFrames, mostFacts}
+use Rattle.files.specs.Table.{Table, most_threads, most_shared, most_locals, most_frames, most_facts}
 use Rattle.positions.specs.declared.plan.Plan.{Plan}
 
 -- a pair of a shared and a local store is a number below k; p and q are where the P and the Q facts begin, and w is how many facts there are
@@ -11,14 +11,14 @@ pub record Planned (s : Plan) : Type 0 where
   pub q : s.q ≡ s.p + s.n * s.k * s.k
   pub w : s.w ≡ s.q + s.n * s.k * s.f * s.k
   pub n_pos : 0 < s.n
-  pub g-pos : 0 < s.g
-  pub l-pos : 0 < s.l
-  pub n-max : s.n ≤ mostThreads
-  pub g-max : s.g ≤ mostShared
-  pub l-max : s.l ≤ mostLocals
-  pub f-max : s.f ≤ mostFrames
-  pub k-max : s.k ≤ 256
-  pub w-max : s.w ≤ mostFacts
+  pub g_pos : 0 < s.g
+  pub l_pos : 0 < s.l
+  pub n_max : s.n ≤ most_threads
+  pub g_max : s.g ≤ most_shared
+  pub l_max : s.l ≤ most_locals
+  pub f_max : s.f ≤ most_frames
+  pub k_max : s.k ≤ 256
+  pub w_max : s.w ≤ most_facts
 
 -- g and l as one number below k
 abbrev pub pair : Plan → ℕ → ℕ → ℕ
@@ -29,16 +29,16 @@ abbrev pub p_at : Plan → ℕ → ℕ → ℕ
 p_at s t c = s.p + t * s.k * s.k + c
 
 -- where the stretch of P facts of t from pair a begins; the one to pair c stands c further
-abbrev pub pFrom : Plan → ℕ → ℕ → ℕ
-pFrom s t a = s.p + (t * s.k + a) * s.k
+abbrev pub p_from : Plan → ℕ → ℕ → ℕ
+p_from s t a = s.p + (t * s.k + a) * s.k
 
 -- where the stretches of Q facts of t from pair a begin, one for each frame; the fact with frame f to pair c stands f * k + c further
-abbrev pub qFrom : Plan → ℕ → ℕ → ℕ
-qFrom s t a = s.q + (t * s.k + a) * (s.f * s.k)
+abbrev pub q_from : Plan → ℕ → ℕ → ℕ
+q_from s t a = s.q + (t * s.k + a) * (s.f * s.k)
 
 -- G fact of t from g to g'
-abbrev pub gAt : Plan → ℕ → ℕ → ℕ → ℕ
-gAt s t g g' = (t * s.g + g) * s.g + g'
+abbrev pub g_at : Plan → ℕ → ℕ → ℕ → ℕ
+g_at s t g g' = (t * s.g + g) * s.g + g'
 
 -- the plan of a table with n threads, g shared stores, l local stores and f frames
 abbrev pub sized : ℕ → ℕ → ℕ → ℕ → Plan

@@ -10,14 +10,14 @@ use Rattle.positions.specs.Plans.{pair, p_at}
 use Rattle.store.specs.Marking.{Has}
 
 -- cell j of row i, where the rows stand in a list of bytes, five to a row
-abbrev pub rowCell : List ℕ → ℕ → ℕ → ℕ
-rowCell rows i j = get_or rows (5 * i + j) 0
+abbrev pub row_cell : List ℕ → ℕ → ℕ → ℕ
+row_cell rows i j = get_or rows (5 * i + j) 0
 
 -- at g thread t reaches l ("some P of t ends there"): the P fact from some pair j to g, l is marked
 pub record Reached (s : Plan) (m : List ℕ) (g t l : ℕ) : Type 0 where
   pub l_lt : l < s.l
   pub j : ℕ
-  pub j-lt : j < s.k
+  pub j_lt : j < s.k
   pub has : Has m (p_at s t (pair s g l) + j * s.k)
 
 -- of the stores A that a thread reaches, l is one that the cell c fits
@@ -44,12 +44,12 @@ pub data Picked (R : ℕ → ℕ → Type 0) (n k u : ℕ) : Type 0 where
 -- What aim answers for a row at g. For row 0, no thread if there is no failed store, else the one for it. For a row of the file, no thread if
 -- its shared cell does not fit g, else thread 0. No thread is the number of threads.
 pub data Aimed (s : Plan) (failed : ℕ) (rows m : List ℕ) (row g u : ℕ) : Type 0 where
-  no-failed : row ≡ 0 → failed ≡ 0 → u ≡ s.n → Aimed s failed rows m row g u
+  no_failed : row ≡ 0 → failed ≡ 0 → u ≡ s.n → Aimed s failed rows m row g u
   picked : (k : ℕ) → row ≡ 0 → failed ≡ suc k → Picked (Reached s m g) s.n k u → Aimed s failed rows m row g u
-  unfit : (i : ℕ) → row ≡ suc i → ¬ Cell (rowCell rows i 0) g → u ≡ s.n → Aimed s failed rows m row g u
-  fit : (i : ℕ) → row ≡ suc i → Cell (rowCell rows i 0) g → u ≡ 0 → Aimed s failed rows m row g u
+  unfit : (i : ℕ) → row ≡ suc i → ¬ Cell (row_cell rows i 0) g → u ≡ s.n → Aimed s failed rows m row g u
+  fit : (i : ℕ) → row ≡ suc i → Cell (row_cell rows i 0) g → u ≡ 0 → Aimed s failed rows m row g u
 
 -- the cell of thread t in a row; in row 0 it is the failed store for thread u, and any store for the others
-unfoldable pub askedCell : ℕ → List ℕ → ℕ → ℕ → ℕ → ℕ
-askedCell failed rows zero u t = ite (ℕ_discrete t u) failed 0
-askedCell failed rows (suc i) u t = rowCell rows i (1 + t)
+unfoldable pub asked_cell : ℕ → List ℕ → ℕ → ℕ → ℕ → ℕ
+asked_cell failed rows zero u t = ite (ℕ_discrete t u) failed 0
+asked_cell failed rows (suc i) u t = row_cell rows i (1 + t)

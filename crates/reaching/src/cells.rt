@@ -1,10 +1,10 @@
 // The cells that a row asks of the threads at a shared store, in row 0 as in the rows of the file. Row 0 asks that some thread is in the failed
 // store. One thread is picked for it, such that the smallest list with that thread there is the smallest of all.
 ghost use Rattle.std.specs.Prelude.{◌≡◌, ◌+◌, ◌*◌, ◌<◌, ◌≤◌, length};
-ghost use Rattle.files.specs.Table.{mostThreads, mostErrors};
+ghost use Rattle.files.specs.Table.{most_threads, most_errors};
 ghost use Rattle.positions.specs.Plans.{Planned};
 ghost use Rattle.store.specs.Marking.{room};
-ghost use Rattle.reaching.specs.Reaching.{Reached, Last, Picked, Aimed, askedCell};
+ghost use Rattle.reaching.specs.Reaching.{Reached, Last, Picked, Aimed, asked_cell};
 
 use crate::reach::{cell_fits, least, reached};
 use positions::plan::Plan;
@@ -46,7 +46,7 @@ fn pick(s: Plan, mem: &[u8], g: usize, k: usize) -> usize
 
 // For row 0, the thread that is to be in the failed store at g; for a row of the file, thread 0 if the row fits g. Else the number of threads.
 pub fn aim(s: Plan, failed: usize, rows: &[u8], n: usize, mem: &[u8], row: usize, g: usize) -> usize
-    requires { Planned s × (failed ≤ s.l) × (5 * n ≤ length rows.now) × (n ≤ mostErrors) × (s.w ≤ room mem.now)
+    requires { Planned s × (failed ≤ s.l) × (5 * n ≤ length rows.now) × (n ≤ most_errors) × (s.w ≤ room mem.now)
         × (row ≤ n) × (g < s.g) }
     ensures { Aimed s failed rows.now mem.now row g result }
 {
@@ -65,8 +65,8 @@ pub fn aim(s: Plan, failed: usize, rows: &[u8], n: usize, mem: &[u8], row: usize
 
 // The cell of thread t in a row. In row 0 it is the failed store for thread u, and any store for the others.
 pub fn cell_of(failed: usize, rows: &[u8], n: usize, row: usize, u: usize, t: usize) -> usize
-    requires { (5 * n ≤ length rows.now) × (n ≤ mostErrors) × (row ≤ n) × (t < mostThreads) }
-    ensures { result ≡ askedCell failed rows.now row u t }
+    requires { (5 * n ≤ length rows.now) × (n ≤ most_errors) × (row ≤ n) × (t < most_threads) }
+    ensures { result ≡ asked_cell failed rows.now row u t }
 {
     if row == 0 {
         if t == u {

@@ -1,8 +1,8 @@
 -- Where a part of a file ends, and the end of the file.
---     ended-left               bytes that are left at a place are bytes after the end there
---     end-past, end_refused    what an end tells of what was read
---     end_after                the end of the file after a part is where the whole ends that is made of the part
---     end-looks                whether the file ends looks at one byte
+--     ended_left               bytes that are left at a place are bytes after the end there
+--     end_past, end_refused    what an end tells of what was read
+--     end_after_lem                the end of the file after a part is where the whole ends that is made of the part
+--     end_looks                whether the file ends looks at one byte
 use mathlib.Core.Path.{◌≡◌, refl}
 use mathlib.Core.List.{List}
 use mathlib.Core.Bool.{Bool, true, false}
@@ -16,25 +16,25 @@ use Rattle.numbers.specs.declared.refusals.Refusal.{Refusal}
 use Rattle.numbers.specs.declared.refusals.Refusal.TheVariants.{After}
 use Rattle.numbers.specs.Reading.{Out, got, bad, then, pick}
 use Rattle.numbers.proofs.ReadingLaws.{never}
-use Rattle.numbers.proofs.Looks.{Looks, cut-same}
+use Rattle.numbers.proofs.Looks.{Looks, cut_same}
 use Rattle.reader.specs.declared.ends.End.TheVariants.{Past, Refused}
-use Rattle.reader.specs.Places.{leftFrom}
-use Rattle.reader.specs.Ends.{atEnd, end_of, endAfter}
+use Rattle.reader.specs.Places.{left_from}
+use Rattle.reader.specs.Ends.{at_end, end_of, end_after}
 use Rattle.reader.specs.Ended.{ended_of}
 
 module _ (s : List ℕ) (at : ℕ) where
-  by-test : (t : Bool) → ltb at (length s) ≡ t → ended_of (leftFrom s at) at ≡ end_of (atEnd (tt {0}) s at)
-  by-test true e = simp (ne_eqb (leftFrom s at) 0 (λ z. absurd (omega (arith, z, ltb-true at (length s) e))), e)
-  by-test false e = simp (eq-eqb (leftFrom s at) 0 (omega (arith, ltb-false at (length s) e)), e)
+  by_test : (t : Bool) → ltb at (length s) ≡ t → ended_of (left_from s at) at ≡ end_of (at_end (tt {0}) s at)
+  by_test true e = simp (ne_eqb (left_from s at) 0 (λ z. absurd (omega (arith, z, ltb-true at (length s) e))), e)
+  by_test false e = simp (eq-eqb (left_from s at) 0 (omega (arith, ltb-false at (length s) e)), e)
 
-  pub ended-left : ended_of (leftFrom s at) at ≡ end_of (atEnd (tt {0}) s at)
-  ended-left = by-test (ltb at (length s)) refl
+  pub ended_left : ended_of (left_from s at) at ≡ end_of (at_end (tt {0}) s at)
+  ended_left = by_test (ltb at (length s)) refl
 
 -- ---- what an end tells
 
-pub end-past : {A : Type 0} (o : Out A) (n : ℕ) → end_of o ≡ Past n → (a : A) × (o ≡ got a n)
-end-past (got a m) n e = let i : m ≡ n = cc in (a, rw i)
-end-past (bad r) n e = never (cc)
+pub end_past : {A : Type 0} (o : Out A) (n : ℕ) → end_of o ≡ Past n → (a : A) × (o ≡ got a n)
+end_past (got a m) n e = let i : m ≡ n = cc in (a, rw i)
+end_past (bad r) n e = never (cc)
 
 pub end_refused : {A : Type 0} (o : Out A) (r : Refusal) → end_of o ≡ Refused r → o ≡ bad r
 end_refused (got a m) r e = never (cc)
@@ -45,20 +45,20 @@ end_same : {A B : Type 0} (a : A) (b : B) (p : ℕ) (t : Bool) → end_of (pick 
 end_same a b p true = refl
 end_same a b p false = refl
 
-pub end_after : {A B : Type 0} (s : List ℕ) (o : Out A) (f : A → B) → endAfter (end_of o) s ≡ end_of (then o λ a p. atEnd (f a) s p)
-end_after s (got a p) f = end_same (tt {0}) (f a) p (ltb p (length s))
-end_after s (bad r) f = refl
+pub end_after_lem : {A B : Type 0} (s : List ℕ) (o : Out A) (f : A → B) → end_after (end_of o) s ≡ end_of (then o λ a p. at_end (f a) s p)
+end_after_lem s (got a p) f = end_same (tt {0}) (f a) p (ltb p (length s))
+end_after_lem s (bad r) f = refl
 
 -- ---- how far the end looks
 
-after-past : {A : Type 0} (t : Bool) (a b : A) (p n : ℕ) → pick t (bad (After p)) (got a p) ≡ got b n → n ≡ p
-after-past true a b p n e = never (cc)
-after-past false a b p n e = cc
+after_past : {A : Type 0} (t : Bool) (a b : A) (p n : ℕ) → pick t (bad (After p)) (got a p) ≡ got b n → n ≡ p
+after_past true a b p n e = never (cc)
+after_past false a b p n e = cc
 
-pub end-looks : {A : Type 0} (a : A) → Looks 1 (atEnd a)
-end-looks a =
+pub end_looks : {A : Type 0} (a : A) → Looks 1 (at_end a)
+end_looks a =
     record {
-      same = λ s k at h. cut-same (λ s. atEnd a s at) s k λ l.
+      same = λ s k at h. cut_same (λ s. at_end a s at) s k λ l.
           rw (lt-ltb at (length s) (omega arith), lt-ltb at (length (take k s)) (omega (arith, length-take-le k s l)));
-      past = λ s at b n e. omega (arith, after-past (ltb at (length s)) a b at n e);
+      past = λ s at b n e. omega (arith, after_past (ltb at (length s)) a b at n e);
     }

@@ -2,12 +2,12 @@
 --     R, typed, fits              a reader as a type; its machine value has the struct's MIR type; its place fits a `usize`
 --     Apart, Whole                what bytes and a place own, and what a reader owns, as parameters
 --     together, apart             each gives the other
---     reader-twice, bytes-twice, taken-apart     both can be had twice: one copy is used, and one is kept for the exit
+--     reader_twice, bytes_twice, taken_apart     both can be had twice: one copy is used, and one is kept for the exit
 --     placed                      a reader's bytes with another place
---     opens-reader, closes-reader     the borrow of a reader behind a reference is opened, and closed at another reader
---     place-behind                the place of a reader behind a reference is read
---     lends-reader, takes_back    a reader in memory, a local's or behind an open borrow, is lent for a call, and comes back at its last value
---     by-reader, by_bytes, by-lent-reader     the parameters of the functions over a reader
+--     opens_reader, closes_reader     the borrow of a reader behind a reference is opened, and closed at another reader
+--     place_behind                the place of a reader behind a reference is read
+--     lends_reader, takes_back    a reader in memory, a local's or behind an open borrow, is lent for a call, and comes back at its last value
+--     by_reader, by_bytes, by_lent_reader     the parameters of the functions over a reader
 use mathlib.Core.Path.{◌≡◌, refl}
 use Prim.Native.Nat.{ℕ, ◌<◌, ◌^◌}
 use mathlib.Core.List.{List, [], ◌∷◌, ◌++◌}
@@ -101,20 +101,20 @@ module _ {M : Type 1} {𝓤 : Ura M} (𝓛 : Logic 𝓤) (κ : Lft) where
       qed 𝓛 (‵ (Own r v) ∷ []) ∵ use1 𝓛 (given (v ∷ [] ≡ lowered r ∷ []) (‵ (Apart κ r.src r.at)))
       (own_open 𝓛 (T.the_type (α κ)) (T'.the_laws (α κ)) (r.src, (r.at, tt)) v) $ learn ! (λ _. done !)
 
-  pub reader-twice : (r : Reader) (v : Val) → ent 𝓤 ⟦ Own r v ⟧ (sep 𝓤 ⟦ Own r v ⟧ ⟦ Own r v ⟧)
-  reader-twice r v = (LL.copy (T.the_type (α κ)) (T'.the_copy (α κ)) 𝓛).twice r (v ∷ [])
+  pub reader_twice : (r : Reader) (v : Val) → ent 𝓤 ⟦ Own r v ⟧ (sep 𝓤 ⟦ Own r v ⟧ ⟦ Own r v ⟧)
+  reader_twice r v = (LL.copy (T.the_type (α κ)) (T'.the_copy (α κ)) 𝓛).twice r (v ∷ [])
 
-  pub bytes-twice : (s : Bor (List ℕ)) (n : ℕ) → ent 𝓤 ⟦ Apart κ s n ⟧ (sep 𝓤 ⟦ Apart κ s n ⟧ ⟦ Apart κ s n ⟧)
-  bytes-twice s n =
+  pub bytes_twice : (s : Bor (List ℕ)) (n : ℕ) → ent 𝓤 ⟦ Apart κ s n ⟧ (sep 𝓤 ⟦ Apart κ s n ⟧ ⟦ Apart κ s n ⟧)
+  bytes_twice s n =
       let r : Reader = record { src = s; at = n } in
       qed 𝓛 (‵ (Apart κ s n) ∷ []) ∵ use1 𝓛 (‵ (Own r (lowered r))) (together s n) $
-      use1 𝓛 (‵ (Own r (lowered r)) ⊛ ‵ (Own r (lowered r))) (reader-twice r (lowered r)) $ split ! $
+      use1 𝓛 (‵ (Own r (lowered r)) ⊛ ‵ (Own r (lowered r))) (reader_twice r (lowered r)) $ split ! $
       use1 𝓛 (‵ (Apart κ s n)) (apart r (lowered r)) $ frame ! $ use1 𝓛 (‵ (Apart κ s n)) (apart r (lowered r)) $ done !
 
   -- a reader that is passed gives its bytes and its place, and is kept
-  pub taken-apart : (r : Reader) (v : Val) → ent 𝓤 ⟦ Whole κ r v ⟧ (sep 𝓤 ⟦ Apart κ r.src r.at ⟧ ⟦ Whole κ r v ⟧)
-  taken-apart r v =
-      qed 𝓛 (‵ (Whole κ r v) ∷ []) ∵ fsplit ! $ use1 𝓛 (‵ (Own r v) ⊛ ‵ (Own r v)) (reader-twice r v) $ split ! $
+  pub taken_apart : (r : Reader) (v : Val) → ent 𝓤 ⟦ Whole κ r v ⟧ (sep 𝓤 ⟦ Apart κ r.src r.at ⟧ ⟦ Whole κ r v ⟧)
+  taken_apart r v =
+      qed 𝓛 (‵ (Whole κ r v) ∷ []) ∵ fsplit ! $ use1 𝓛 (‵ (Own r v) ⊛ ‵ (Own r v)) (reader_twice r v) $ split ! $
       use1 𝓛 (‵ (Apart κ r.src r.at)) (apart r v) $ frame ! $ fjoin ! $ done !
 
   pub placed : (r : Reader) (v : Val) (n : ℕ) → n < 2 ^ 64
@@ -143,19 +143,19 @@ module _ {M : Type 1} {𝓤 : Ura M} {𝓛 : Logic 𝓤} {K : Type 0} {Γ : List
       use1 𝓛 (‵ (Cell r b o)) (𝓛.laws.raw_at full_share (T'.mir erased) b o (lowered r)) $ s)
 
 module _ {M : Type 1} {𝓤 : Ura M} {𝓛 : Logic 𝓤} {K : Type 0} {Γ : List (Item 𝓤)} {G : Goal 𝓤 𝓛.H} where
-  pub opens-reader : K → Soaks G → (κ : Lft) {ℓ : Lft} {q : Share} {γ : GName} (r : Reader) (b o : ℕ)
+  pub opens_reader : K → Soaks G → (κ : Lft) {ℓ : Lft} {q : Share} {γ : GName} (r : Reader) (b o : ℕ)
       → (Is (R κ) r (lowered r ∷ [])
       → Seq K 𝓛 (‵ (Cell r b o) ∷ ‵ ((R κ).own_val r (lowered r ∷ [])) ∷ ‵ (fobor ℓ q (Lies κ b o γ))
       ∷ ‵ (fobs γ ((R κ).coded.code r)) ∷ ‵ (fauth γ ((R κ).coded.code r)) ∷ Γ) G)
       → Seq K 𝓛 (‵ (fobs γ ((R κ).coded.code r)) ∷ ‵ (fbor ℓ (Lies κ b o γ)) ∷ ‵ (flft ℓ q) ∷ Γ) G
-  opens-reader t z κ r b o k =
+  opens_reader t z κ r b o k =
       opens t z (R κ) {h = r} b o (λ vs. spells t κ r vs b o $
       move t (1 ∷ []) $ peeks t (R κ) (Is (R κ)) (shows 𝓛 (R κ)) r (lowered r ∷ []) (λ is. move t (1 ∷ 0 ∷ []) $ k is))
 
-  pub closes-reader : K → Soaks G → (κ : Lft) {ℓ : Lft} {q : Share} {γ : GName} {u v : Gv} (r : Reader) (b o : ℕ)
+  pub closes_reader : K → Soaks G → (κ : Lft) {ℓ : Lft} {q : Share} {γ : GName} {u v : Gv} (r : Reader) (b o : ℕ)
       → Step K 𝓛 (‵ (fobs γ ((R κ).coded.code r)) ∷ ‵ (fbor ℓ (Lies κ b o γ)) ∷ ‵ (flft ℓ q) ∷ Γ) G
       (‵ (Cell r b o) ∷ ‵ ((R κ).own_val r (lowered r ∷ [])) ∷ ‵ (fobor ℓ q (Lies κ b o γ)) ∷ ‵ (fobs γ u) ∷ ‵ (fauth γ v) ∷ Γ) G
-  closes-reader t z κ r b o = step (λ s.
+  closes_reader t z κ r b o = step (λ s.
       use1 𝓛 (‵ (cell_at full_share (R κ).mir (lowered r ∷ []) b o)) (𝓛.laws.at_raw full_share (T'.mir erased) b o (lowered r)) $
       closes t z (R κ) r (lowered r ∷ []) b o $ s)
 
@@ -163,11 +163,11 @@ module _ {M : Type 1} {𝓤 : Ura M} {𝓛 : Logic 𝓤} {K : Type 0} {Γ : List
 module _ {M : Type 1} {𝓤 : Ura M} {𝓛 : Logic 𝓤} {K : Type 0} {Γ : List (Item 𝓤)} {E : Env 𝓤 𝓛.H} where
   open 𝓛 use {H}
 
-  pub place-behind : K → (r : Reader) {i b o : ℕ} {back : Val → Item 𝓤} (m : ℕ)
+  pub place_behind : K → (r : Reader) {i b o : ℕ} {back : Val → Item 𝓤} (m : ℕ)
       → Reads K 𝓛 Γ (spot_of 𝓤 H E i).0 (spot_of 𝓤 H E i).1 (spot_of 𝓤 H E i).2 (vptr b o)
       → Part K 𝓛 (nth 𝓛 m Γ) full_share (T'.mir erased) b o (lowered r) back
       → Opd K 𝓛 Γ E (copy (place i (deref (T'.mir erased) ∷ field 1 ∷ []))) (vint w64 r.at)
-  place-behind t r m ref p = load t (from t (hop t ref (fld t refl (stop t)))) (look_in t m (sub t 1 refl p))
+  place_behind t r m ref p = load t (from t (hop t ref (fld t refl (stop t)))) (look_in t m (sub t 1 refl p))
 
 -- ---- a reader in memory is lent for a call
 
@@ -207,13 +207,13 @@ module _ {M : Type 1} {𝓤 : Ura M} (𝓛 : Logic 𝓤) (κ : Lft) (q : Share) 
 module _ {M : Type 1} {𝓤 : Ura M} {𝓛 : Logic 𝓤} {K : Type 0} {Γ : List (Item 𝓤)} {G : Goal 𝓤 𝓛.H} where
   open 𝓛 use {A}
 
-  pub lends-reader : K → Soaks G → (κ : Lft) (q : Share) (r : Reader) (v : Val) (b o : ℕ)
+  pub lends_reader : K → Soaks G → (κ : Lft) (q : Share) (r : Reader) (v : Val) (b o : ℕ)
       → ((a : ℕ) (δ : GName)
       → Seq K 𝓛 (‵ ((MutRef (named 0) (loan a κ) (R κ)).own_val (lent_at b o δ r) (vptr b o ∷ [])) ∷ raw (Meanwhile 𝓛 κ q a)
       ∷ Lender 𝓛 κ q a b o δ ∷ Γ) G)
       → Seq K 𝓛 (‵ (fat full_share (T'.mir erased) b o v) ∷ ‵ ((R κ).own_val r (v ∷ [])) ∷ raw (Before 𝓛 κ q) ∷ Γ) G
   unfolding part_of
-  lends-reader t z κ q r v b o k =
+  lends_reader t z κ q r v b o k =
       use1 𝓛 (‵ (cell_at full_share (R κ).mir (v ∷ []) b o)) (𝓛.laws.at_raw full_share (T'.mir erased) b o v) $ fjoin t $
       fpack t (List Val) (λ us. fsep (cell_at full_share (R κ).mir us b o) ((R κ).own_val r us)) (v ∷ []) $
       lft_new t z (λ a. move t (1 ∷ []) $
@@ -249,8 +249,8 @@ module _ {M : Type 1} {𝓤 : Ura M} {𝓛 : Logic 𝓤} {K : Type 0} {Γ : List
 -- ---- the parameters of the functions over a reader
 
 -- `r: Reader<'a>`
-abbrev pub by-reader : Parameters {n = 1} (plain (λ κs. T.the_row (named_lft 1 0 tt κs)) ∷ []) (yes, tt)
-by-reader = record {
+abbrev pub by_reader : Parameters {n = 1} (plain (λ κs. T.the_row (named_lft 1 0 tt κs)) ∷ []) (yes, tt)
+by_reader = record {
   stay = (stay_none (λ κs. T.the_row (named_lft 1 0 tt κs)) yes, tt);
   go = λ 𝓛. (Goes-none 𝓛 1 (λ κs. T.the_row (named_lft 1 0 tt κs)) yes (λ κs x f. refl), tt);
   spell = λ κs. (LL.vals (T.the_type (named_lft 1 0 tt κs)) (T'.the_laws (named_lft 1 0 tt κs)), tt);
@@ -271,8 +271,8 @@ by_bytes = record {
 abbrev behind : Slot 2
 behind = plain (λ κs. T.the_row (named_lft 2 1 tt κs))
 
-abbrev pub by-lent-reader : Parameters {n = 2} (mut_ref_to (0 ∷ []) tt behind ∷ []) (yes, tt)
-by-lent-reader = record {
+abbrev pub by_lent_reader : Parameters {n = 2} (mut_ref_to (0 ∷ []) tt behind ∷ []) (yes, tt)
+by_lent_reader = record {
   stay = (stay_ref (0 ∷ []) tt behind, tt);
   go = λ 𝓛. (Goes-ref 𝓛 2 0 tt behind, tt);
   spell = λ κs. (mut_vals, tt);

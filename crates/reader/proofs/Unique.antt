@@ -13,12 +13,12 @@ use contract.Monad.{Fun, fact}
 use denote.Ref.{Bor}
 use denote.Triple.Clauses.{AtExit}
 use denote.Triple.Entry.{Args}
-use Rattle.numbers.specs.Reading.{numberAt, read_of}
+use Rattle.numbers.specs.Reading.{number_at, read_of}
 use Rattle.numbers.specs.declared.reading.Read.{Read}
 use Rattle.numbers.proofs.Unique.{same, Fixes}
 use Rattle.reader.specs.declared.Reader.{Reader}
-use Rattle.reader.specs.Places.{leftFrom}
-use Rattle.reader.specs.Readers.{movedOn}
+use Rattle.reader.specs.Places.{left_from}
+use Rattle.reader.specs.Readers.{moved_on}
 use Rattle.reader.specs.contracts.reader_at as reader_at
 use Rattle.reader.specs.contracts.place as place
 use Rattle.reader.specs.contracts.left as left
@@ -27,7 +27,7 @@ use Rattle.reader.proofs.number_at.Reads as number_at
 use Rattle.reader.proofs.number_at.Kinds as number-at-kinds
 use Rattle.reader.proofs.end_at.Reads as end-at
 use Rattle.reader.proofs.end_at.Kinds as end-at-kinds
-use Rattle.reader.proofs.ends.end_after.Reads as end_after
+use Rattle.reader.proofs.ends.end_after.Reads as end_after_lem
 use Rattle.reader.proofs.ends.end_after.Kinds as end-after-kinds
 use Rattle.reader.proofs.fields.ranged.Reads as ranged
 use Rattle.reader.proofs.fields.ranged.Kinds as ranged-kinds
@@ -38,23 +38,23 @@ use Rattle.reader.proofs.fields.version.Kinds as version-kinds
 
 -- ---- with plain parameters
 
-pub number-at-fixes : Fixes number-at-kinds.ps number-at-kinds.r number_at.Post
-number-at-fixes κs a x x' s s' = same
+pub number_at_fixes : Fixes number-at-kinds.ps number-at-kinds.r number_at.Post
+number_at_fixes κs a x x' s s' = same
 
-pub end-at-fixes : Fixes end-at-kinds.ps end-at-kinds.r end-at.Post
-end-at-fixes κs a x x' s s' = same
+pub end_at_fixes : Fixes end-at-kinds.ps end-at-kinds.r end-at.Post
+end_at_fixes κs a x x' s s' = same
 
-pub end-after-fixes : Fixes end-after-kinds.ps end-after-kinds.r end_after.Post
-end-after-fixes κs a x x' s s' = same
+pub end_after_fixes : Fixes end-after-kinds.ps end-after-kinds.r end_after_lem.Post
+end_after_fixes κs a x x' s s' = same
 
-pub ranged-fixes : Fixes ranged-kinds.ps ranged-kinds.r ranged.Post
-ranged-fixes κs a x x' s s' = same
+pub ranged_fixes : Fixes ranged-kinds.ps ranged-kinds.r ranged.Post
+ranged_fixes κs a x x' s s' = same
 
-pub field-fixes : Fixes field-kinds.ps field-kinds.r field.Post
-field-fixes κs a x x' s s' = same
+pub field_fixes : Fixes field-kinds.ps field-kinds.r field.Post
+field_fixes κs a x x' s s' = same
 
-pub version-fixes : Fixes version-kinds.ps version-kinds.r version.Post
-version-fixes κs a x x' s s' = same
+pub version_fixes : Fixes version-kinds.ps version-kinds.r version.Post
+version_fixes κs a x x' s s' = same
 
 -- ---- over a reader: what each contract says, in its text
 
@@ -62,37 +62,37 @@ version-fixes κs a x x' s s' = same
 abbrev pub Made : Bor (List ℕ) → ℕ → Reader → Type 0
 Made src at r = (r.src ≡ src) × (r.at ≡ at)
 
-pub reader-at-unique : (src : Bor (List ℕ)) (at : ℕ) (r r' : Reader) → Made src at r → Made src at r' → r ≡ r'
-reader-at-unique src at r r' p q = λ i. record { src = same p.0 q.0 i; at = same p.1 q.1 i }
+pub reader_at_unique : (src : Bor (List ℕ)) (at : ℕ) (r r' : Reader) → Made src at r → Made src at r' → r ≡ r'
+reader_at_unique src at r r' p q = λ i. record { src = same p.0 q.0 i; at = same p.1 q.1 i }
 
-pub place-unique : (r : Reader) (n n' : ℕ) → n ≡ r.at → n' ≡ r.at → n ≡ n'
-place-unique r n n' = same
+pub place_unique : (r : Reader) (n n' : ℕ) → n ≡ r.at → n' ≡ r.at → n ≡ n'
+place_unique r n n' = same
 
-pub left_unique : (r : Reader) (n n' : ℕ) → n ≡ leftFrom r.src.now r.at → n' ≡ leftFrom r.src.now r.at → n ≡ n'
+pub left_unique : (r : Reader) (n n' : ℕ) → n ≡ left_from r.src.now r.at → n' ≡ left_from r.src.now r.at → n ≡ n'
 left_unique r n n' = same
 
 -- the answer of `next`, and the reader at exit
 abbrev pub ReadOn : Reader → Read → Reader → Type 0
-ReadOn r n r' = (n ≡ read_of (numberAt r.src.now r.at)) × (r' ≡ movedOn r)
+ReadOn r n r' = (n ≡ read_of (number_at r.src.now r.at)) × (r' ≡ moved_on r)
 
-pub next-unique : (r : Reader) (n n' : Read) (end end' : Reader) → ReadOn r n end → ReadOn r n' end' → (n ≡ n') × (end ≡ end')
-next-unique r n n' end end' p q = (same p.0 q.0, same p.1 q.1)
+pub next_unique : (r : Reader) (n n' : Read) (end end' : Reader) → ReadOn r n end → ReadOn r n' end' → (n ≡ n') × (end ≡ end')
+next_unique r n n' end end' p q = (same p.0 q.0, same p.1 q.1)
 
 -- ---- and these are the contracts: the clause that the prover reads from the source is that fact
 
 module _ {M : Type 1} {𝓤 : Ura M} (𝓛 : Logic 𝓤) (mem : Memory → SProp 𝓤) (run : Routine → Fun 𝓤) where
-  pub reader-at-says : (κs : Lfts 1) (a : Args reader_at.signature κs) (r : Reader) (s : AtExit reader_at.ended κs)
+  pub reader_at_says : (κs : Lfts 1) (a : Args reader_at.signature κs) (r : Reader) (s : AtExit reader_at.ended κs)
       → (reader_at.clauses 𝓛 mem run κs a).ensures tt r s ≡ fact 𝓤 (Made a.0 a.1.0 r)
-  reader-at-says κs a r s = refl
+  reader_at_says κs a r s = refl
 
-  pub place-says : (κs : Lfts 1) (a : Args place.signature κs) (n : ℕ) (s : AtExit place.ended κs)
+  pub place_says : (κs : Lfts 1) (a : Args place.signature κs) (n : ℕ) (s : AtExit place.ended κs)
       → (place.clauses 𝓛 mem run κs a).ensures tt n s ≡ fact 𝓤 (n ≡ a.0.at)
-  place-says κs a n s = refl
+  place_says κs a n s = refl
 
-  pub left-says : (κs : Lfts 1) (a : Args left.signature κs) (n : ℕ) (s : AtExit left.ended κs)
-      → (left.clauses 𝓛 mem run κs a).ensures tt n s ≡ fact 𝓤 (n ≡ leftFrom a.0.src.now a.0.at)
-  left-says κs a n s = refl
+  pub left_says : (κs : Lfts 1) (a : Args left.signature κs) (n : ℕ) (s : AtExit left.ended κs)
+      → (left.clauses 𝓛 mem run κs a).ensures tt n s ≡ fact 𝓤 (n ≡ left_from a.0.src.now a.0.at)
+  left_says κs a n s = refl
 
-  pub next-says : (κs : Lfts 2) (a : Args next.signature κs) (n : Read) (s : AtExit next.ended κs)
+  pub next_says : (κs : Lfts 2) (a : Args next.signature κs) (n : Read) (s : AtExit next.ended κs)
       → (next.clauses 𝓛 mem run κs a).ensures tt n s ≡ fact 𝓤 (ReadOn a.0.now n s.0.now)
-  next-says κs a n s = refl
+  next_says κs a n s = refl

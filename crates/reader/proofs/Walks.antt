@@ -4,11 +4,11 @@
 --     Here, here        what a walk is given, and where a function's own code is
 --     Parameters        what a walk has to know of a function's parameters
 --     At, Walk          one choice of what a contract binds, and the walk there
---     by-walk           from the walks to the theorem, for a function that asks nothing of its caller
+--     by_walk           from the walks to the theorem, for a function that asks nothing of its caller
 --     ends              how a walk ends: with the result, the tokens and what is had of the parameters
 --     asks              a call of a function that asks nothing: what its contract says of the result and of what was lent to it is learned
---     asks-thin         the same where nothing was lent that a last value is said of
---     asks-last         `asks-thin` of a call that is the last statement of a turn
+--     asks_thin         the same where nothing was lent that a last value is said of
+--     asks_last         `asks_thin` of a call that is the last statement of a turn
 --     turns             a loop with what follows it: from the invariant a turn leaves the loop, or ends in the invariant at a smaller measure
 --     whiles            the test of a `while`
 use Prim.Native.Nat.{ℕ, ◌<◌}
@@ -118,14 +118,14 @@ module _ {M : Type 1} {𝓤 : Ura M} (𝓛 : Logic 𝓤) (𝓜 : Model 𝓤 𝓛
     abbrev vals : (κs : Lfts T.signature.lifetimes) → Args T.signature κs → Vals T.signature κs
     vals κs a = valss (types_at T.signature.params κs) (p.spell κs) a
 
-    pub by-walk : Closed 𝓤 H calls loops k fn
+    pub by_walk : Closed 𝓤 H calls loops k fn
         → ((κs : Lfts T.signature.lifetimes) (qs : Shares T.signature.lifetimes)
         (bounds : AllOutlive T.signature.lifetimes T.signature.outlives κs) (a : Args T.signature κs) (h : (c κs a).ghost)
         → Are (types_at T.signature.params κs) (Ises (types_at T.signature.params κs)) a (vals κs a)
         → unfold here in Walk here T p c fn ((κs, qs, bounds, a, vals κs a), h))
         → Meets 𝓛 T.signature (calls k) (closing 𝓛 T c)
     unfolding tables_of here
-    by-walk closed walk =
+    by_walk closed walk =
         entered 𝓤 H (triple_of 𝓛 T.signature (closing 𝓛 T c)) calls loops k fn closed
         (walk_Meets 𝓛 T p.stay (p.go 𝓛) c (WpFn 𝓤 H calls loops fn)
         (WpFn-mono 𝓤 H 𝓛.laws (tables_of 𝓤 H 𝓜 (tables 𝓤 H 𝓜 𝓡 env)) fn)
@@ -200,7 +200,7 @@ module _ {M : Type 1} {𝓤 : Ura M} (g : Here 𝓤) (T : Ended) (c : Clauses �
         calls_at t fm (triple_of 𝓤 H A S (closing 𝓤 H A T c)) met ((κs, qs, bounds, a, vss), h) os (λ v.
         returned t tt κs qs bounds a vss h φ told v (λ r ws e. k v r ws e))
 
-    pub asks-thin : K → Meets 𝓤 H A S (C f) (closing 𝓤 H A T c)
+    pub asks_thin : K → Meets 𝓤 H A S (C f) (closing 𝓤 H A T c)
         → (κs : Lfts S.lifetimes) (qs : Shares S.lifetimes) (bounds : AllOutlive S.lifetimes S.outlives κs)
         (a : Args S κs) (vss : Vals S κs) (h : (c κs a).ghost) → ent 𝓤 (emp 𝓤) ((c κs a).requires h)
         → (φ : Res S κs → Type 0) → ((r : Res S κs) (ws : Lasts T κs a) → ent 𝓤 ((c κs a).ensures h r (at_exit T κs a ws)) (fact 𝓤 (φ r)))
@@ -208,11 +208,11 @@ module _ {M : Type 1} {𝓤 : Ura M} (g : Here 𝓤) (T : Ended) (c : Clauses �
         → ((v : Val) (r : Res S κs) → φ r
         → Seq K W (‵ ((type_at S.result κs).own_val r (v ∷ [])) ∷ raw (alive 𝓤 H A S κs qs) ∷ Γ) (lands C Λ E d v rest q))
         → Seq K W (raw (alive 𝓤 H A S κs qs) ∷ ‵ (owns (types_at S.params κs) a vss) ∷ Γ) (runs C Λ E (seq (call f xs d) rest) q)
-    asks-thin t met κs qs bounds a vss h none φ told os k =
+    asks_thin t met κs qs bounds a vss h none φ told os k =
         asks t met κs qs bounds a vss h none (λ r ws. φ r) told os (λ v r ws e. move t (2 ∷ []) $ drop t $ k v r e)
 
   module _ {K : Type 0} {Γ : List (Item 𝓤)} {E : wp.Env 𝓤 H} {f : Name} {xs : List Operand} {q : Post 𝓤 H} {d : Place} where
-    pub asks-last : K → Meets 𝓤 H A S (C f) (closing 𝓤 H A T c)
+    pub asks_last : K → Meets 𝓤 H A S (C f) (closing 𝓤 H A T c)
         → (κs : Lfts S.lifetimes) (qs : Shares S.lifetimes) (bounds : AllOutlive S.lifetimes S.outlives κs)
         (a : Args S κs) (vss : Vals S κs) (h : (c κs a).ghost) → ent 𝓤 (emp 𝓤) ((c κs a).requires h)
         → (φ : Res S κs → Type 0) → ((r : Res S κs) (ws : Lasts T κs a) → ent 𝓤 ((c κs a).ensures h r (at_exit T κs a ws)) (fact 𝓤 (φ r)))
@@ -220,7 +220,7 @@ module _ {M : Type 1} {𝓤 : Ura M} (g : Here 𝓤) (T : Ended) (c : Clauses �
         → ((v : Val) (r : Res S κs) → φ r
         → Seq K W (‵ ((type_at S.result κs).own_val r (v ∷ [])) ∷ raw (alive 𝓤 H A S κs qs) ∷ Γ) (settles E d v q))
         → Seq K W (raw (alive 𝓤 H A S κs qs) ∷ ‵ (owns (types_at S.params κs) a vss) ∷ Γ) (runs C Λ E (call f xs d) q)
-    asks-last t met κs qs bounds a vss h none φ told os k =
+    asks_last t met κs qs bounds a vss h none φ told os k =
         handed t κs qs bounds a vss h none $
         calls_at_last t fm (triple_of 𝓤 H A S (closing 𝓤 H A T c)) met ((κs, qs, bounds, a, vss), h) os (λ v.
         returned t tt κs qs bounds a vss h (λ r ws. φ r) told v (λ r ws e. move t (2 ∷ []) $ drop t $ k v r e))

@@ -6,8 +6,8 @@ use Rattle.reader.specs.declared.ends.End.{End}
 use Rattle.reader.specs.declared.ends.End.TheVariants.{Past, Refused}
 
 -- bytes after the end are refused, at the first of them
-abbrev pub atEnd : {A : Type 0} → A → List ℕ → ℕ → Out A
-atEnd a s p = pick (ltb p (length s)) (bad (After p)) (got a p)
+abbrev pub at_end : {A : Type 0} → A → List ℕ → ℕ → Out A
+at_end a s p = pick (ltb p (length s)) (bad (After p)) (got a p)
 
 -- ---- what the code answers
 
@@ -21,5 +21,5 @@ after (Past next) f = f next
 after (Refused r) f = bad r
 
 -- the end of the file after a part of it
-abbrev pub endAfter : End → List ℕ → End
-endAfter e s = end_of (after e (atEnd (tt {0}) s))
+abbrev pub end_after : End → List ℕ → End
+end_after e s = end_of (after e (at_end (tt {0}) s))

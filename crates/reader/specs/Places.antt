@@ -9,5 +9,5 @@ past_of at (Value value next) = next
 past_of at (Refused r) = at
 
 -- how many bytes of s there are from `at` on: 0 at the end and past it
-abbrev pub leftFrom : List ℕ → ℕ → ℕ
-leftFrom s at = length s - at
+abbrev pub left_from : List ℕ → ℕ → ℕ
+left_from s at = length s - at

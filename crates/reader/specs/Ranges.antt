@@ -6,7 +6,7 @@ use Rattle.numbers.specs.declared.reading.Read.{Read}
 use Rattle.numbers.specs.declared.reading.Read.TheVariants.{Value, Refused}
 
 -- a number that was read at a place, if it is at least `low` and below `end`: else it is outside, and that is told of its place
-abbrev pub rangedOf : ℕ → ℕ → ℕ → Read → Read
-rangedOf at low end (Value value next) =
+abbrev pub ranged_of : ℕ → ℕ → ℕ → Read → Read
+ranged_of at low end (Value value next) =
     pick (ltb value low) (Refused (Outside at)) (pick (ltb value end) (Value value next) (Refused (Outside at)))
-rangedOf at low end (Refused r) = Refused r
+ranged_of at low end (Refused r) = Refused r

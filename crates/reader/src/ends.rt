@@ -1,6 +1,6 @@
 // Where a part of a file ends, and the end of the whole.
 ghost use Rattle.std.specs.Prelude.{◌≡◌};
-ghost use Rattle.reader.specs.Ends.{endAfter};
+ghost use Rattle.reader.specs.Ends.{end_after};
 ghost use Rattle.reader.specs.Ended.{ended_of};
 
 use numbers::refusals::Refusal;
@@ -26,7 +26,7 @@ pub(crate) fn ended(left: usize, place: usize) -> End
 
 // The end of the file, which is to follow a part of it.
 pub fn end_after(src: &[u8], before: End) -> End
-    ensures { result ≡ endAfter before src.now }
+    ensures { result ≡ end_after before src.now }
 {
     match before {
         End::Past { next } => crate::end_at(src, next),

@@ -1,14 +1,14 @@
 // Numbers with a range, read through a reader.
 ghost use Rattle.std.specs.Prelude.{◌≡◌};
-ghost use Rattle.numbers.specs.Reading.{field_at, versionAt, read_of};
-ghost use Rattle.reader.specs.Ranges.{rangedOf};
+ghost use Rattle.numbers.specs.Reading.{field_at, version_at, read_of};
+ghost use Rattle.reader.specs.Ranges.{ranged_of};
 
 use numbers::reading::Read;
 use numbers::refusals::Refusal;
 
 // A number that was read at `at`, which is to be at least `low` and below `end`.
 pub fn ranged(at: usize, read: Read, low: u32, end: u32) -> Read
-    ensures { result ≡ rangedOf at low end read }
+    ensures { result ≡ ranged_of at low end read }
 {
     match read {
         Read::Value { value, next } => {
@@ -37,7 +37,7 @@ pub fn field(src: &[u8], at: usize, low: u32, end: u32) -> Read
 
 // The version that a file begins with, which is to be 1.
 pub fn version(src: &[u8]) -> Read
-    ensures { result ≡ read_of (versionAt src.now) }
+    ensures { result ≡ read_of (version_at src.now) }
 {
     match crate::number_at(src, 0) {
         Read::Value { value, next } => {

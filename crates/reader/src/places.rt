@@ -1,6 +1,6 @@
 // Places in a file: what a reader works with, of bytes and a number.
 ghost use Rattle.std.specs.Prelude.{◌≡◌};
-ghost use Rattle.reader.specs.Places.{past_of, leftFrom};
+ghost use Rattle.reader.specs.Places.{past_of, left_from};
 
 use numbers::reading::Read;
 
@@ -16,7 +16,7 @@ pub(crate) fn past(at: usize, read: Read) -> usize
 
 // How many bytes there are from `at` on.
 pub(crate) fn left_from(src: &[u8], at: usize) -> usize
-    ensures { result ≡ leftFrom src.now at }
+    ensures { result ≡ left_from src.now at }
 {
     if at < src.len() {
         return src.len() - at;

@@ -6,11 +6,11 @@ use Rattle.files.specs.declared.header.Header.{Header}
 use Rattle.files.specs.Table.{Table, W}
 use Rattle.files.specs.Header.{header_at}
 use Rattle.files.specs.File.{table_of}
-use Rattle.model.specs.Positions.{factAt}
+use Rattle.model.specs.Positions.{fact_at}
 use Rattle.model.specs.Memory.{mark}
 use Rattle.model.specs.Claims.{First}
 use Rattle.words.specs.Text.{Written}
-use Rattle.fact_text.specs.FactLines.{factLine}
+use Rattle.fact_text.specs.FactLines.{fact_line}
 use Rattle.report.specs.declared.facts.Next.{Next}
 use Rattle.report.specs.declared.facts.Next.TheVariants.{Line, End}
 
@@ -23,7 +23,7 @@ pub record Listed (T : Table) (A : ℕ → Type 0) (from p : ℕ) : Type 0 where
 -- What comes next, where the positions A are listed: the line of the first fact from `from` on, and the position past it; or, where there is none,
 -- the end, with nothing written. A line is written into a buffer that held `before`.
 pub data NextIn (T : Table) (A : ℕ → Type 0) (from : ℕ) (before : List ℕ) : Next → List ℕ → Type 0 where
-  line : {p written : ℕ} {after : List ℕ} → First (Listed T A from) p → Written (factLine (factAt T p)) before after written
+  line : {p written : ℕ} {after : List ℕ} → First (Listed T A from) p → Written (fact_line (fact_at T p)) before after written
       → NextIn T A from before (Line written (p + 1)) after
   end : ((p : ℕ) → ¬ Listed T A from p) → NextIn T A from before End before
 

@@ -83,9 +83,9 @@ pub use borrow.Fn.Plain.{Known, t_fn_plain}
 pub use borrow.Fn.Run.{Over}
 pub use borrow.Fn.World.{World}
 -- and of judgements
-pub use Rattle.steps.proofs.Judgements.{u64, n64, v64, bytes, lent, Data, struct_of, ty_of, array_of, tyArrayOf, arrayHere, copy_of, valued}
-pub use Rattle.steps.proofs.Judgements.{valued_laws, pData, rData, ◌&◌, it, dAt, sAt, mAt, Callee, At, Roomy, Is, Like, Shows, Has, Code, Step}
-pub use Rattle.steps.proofs.Judgements.{Quiet, gone, over, over-data, over-array, like, read, slice-arg, mut-arg}
+pub use Rattle.steps.proofs.Judgements.{u64, n64, v64, bytes, lent, Data, struct_of, ty_of, array_of, ty_array_of, array_here, copy_of, valued}
+pub use Rattle.steps.proofs.Judgements.{valued_laws, p_data, r_data, ◌&◌, it, d_at, s_at, m_at, Callee, At, Roomy, Is, Like, Shows, Has, Code, Step}
+pub use Rattle.steps.proofs.Judgements.{Quiet, gone, over, over_data, over_array, like, read, slice_arg, mut_arg}
 
 -- ---- the rules
 
@@ -307,16 +307,16 @@ module _ (w : At) (D : Data) where
 
   -- and so of an array of them
   module _ (n : ℕ) where
-    abbrev pub copied-array : Yields w (λ ρ. Unit) (tyArrayOf D n) (arrayHere D n) (arrayHere D n) (array_of D n)
+    abbrev pub copied_array : Yields w (λ ρ. Unit) (ty_array_of D n) (array_here D n) (array_here D n) (array_of D n)
         (λ x. x) (λ x. x)
-    copied-array =
+    copied_array =
         Yields-copy w w.W (λ ρ. Unit) (array_of D n) refl ((c_arr (struct_of D) (copy_of D) n).copy w w.W)
-        (arrayHere D n) (λ x. x) (λ x. x) (λ ρ told. mem_arr w w.W (struct_of D) n ρ)
+        (array_here D n) (λ x. x) (λ x. x) (λ ρ told. mem_arr w w.W (struct_of D) n ρ)
         (λ ρ told. arr_mem w w.W (struct_of D) n tt ρ)
 
-    abbrev pub made_array : Makes w (λ ρ. Unit) (tyArrayOf D n) (arrayHere D n) (array_of D n) (λ x. x)
+    abbrev pub made_array : Makes w (λ ρ. Unit) (ty_array_of D n) (array_here D n) (array_of D n) (λ x. x)
     made_array =
-        Makes-mem w w.W (λ ρ. Unit) (array_of D n) refl (arrayHere D n) (λ x. x)
+        Makes-mem w w.W (λ ρ. Unit) (array_of D n) refl (array_here D n) (λ x. x)
         (λ ρ told. arr_mem w w.W (struct_of D) n tt ρ)
 
 module _ {w : At} (D : Data) where
@@ -330,14 +330,14 @@ module _ {w : At} (D : Data) where
 
   -- the struct is copied to ny that the pointer at nq points to: the element of the slice at ns whose number is at ni. dv is what stands past
   -- the end.
-  abbrev pub reads-element : {Γ : Cx} (ns ni nq ny α : ℕ) (τ : Ty) (l : Life) (pos : ℕ → ℕ → ℕ) (dv : (struct_of D).Denot)
+  abbrev pub reads_element : {Γ : Cx} (ns ni nq ny α : ℕ) (τ : Ty) (l : Life) (pos : ℕ → ℕ → ℕ) (dv : (struct_of D).Denot)
       (hs : (ent₁ Γ ns nq).1.Mod → Bor (List (struct_of D).Denot)) (hi : (get_row ni Γ.locals).1.Mod → ℕ) (hq : (ent₂ Γ ns nq).1.Mod → ℕ × ℕ)
       → ((i o : ℕ) → at o (mem (struct_of D)).size i ≡ pos i o) → Like w (ent₁ Γ ns nq).1 (sslice (struct_of D) τ α) hs
       → Like w (ent₂ Γ ns nq).1 (sc_here s_ptr) hq → Roomy w (get_row ny (tab₂ Γ ns nq)).1 (ty_of D) → get_life α Γ.slots ≡ l → IsTok l
       → Is w (ent₂ Γ ns nq).0 ty_ptr → Is w (get_row ny (tab₂ Γ ns nq)).0 (ty_of D)
       → Step w Γ (assign (place (get_row ny (tab₂ Γ ns nq)).0 []) (rv_opd (copy (place (ent₂ Γ ns nq).0 (deref (ty_of D) ∷ [])))))
       (AfterShs (struct_of D) Γ ns nq ny α τ l (whole (struct_of D)))
-  reads-element {Γ} ns ni nq ny α τ l pos dv hs hi hq sz a₁ a₂ tr e tk e₁ e₂ = record {
+  reads_element {Γ} ns ni nq ny α τ l pos dv hs hi hq sz a₁ a₂ tr e tk e₁ e₂ = record {
     φ = Φshs_copy_out (struct_of D) Γ ns nq ny α τ l (whole (struct_of D)) pos (λ u. hi (get ni Γ.locals u)) (λ x. x) dv (λ x. Unit) hs hq;
     stmt = t_shs_copy_out w w.W w.E (struct_of D) w.𝓣 refl ((copy_of D).copy w w.W)
         (halved w w.W (copy_of D)) (λ ρ. Unit) Γ ns nq ny α τ l (ty_of D) (ty_of D) (whole (struct_of D)) pos
@@ -346,14 +346,14 @@ module _ {w : At} (D : Data) where
   }
 
   -- the array of them at ny is copied to nd
-  abbrev pub copies-array : {Γ : Cx} (n ny nd : ℕ) (h : (ent₁ Γ ny nd).1.Mod → (array_of D n).Denot)
-      (k : (ent₁ Γ ny nd).1.Mod → (arrayHere D n).Mod)
-      → Yields w (λ ρ. Unit) (tyArrayOf D n) (ent₁ Γ ny nd).1 (arrayHere D n) (array_of D n) h k
-      → Roomy w (ent₂ Γ ny nd).1 (tyArrayOf D n) → Is w (ent₁ Γ ny nd).0 (tyArrayOf D n) → Is w (ent₂ Γ ny nd).0 (tyArrayOf D n)
+  abbrev pub copies_array : {Γ : Cx} (n ny nd : ℕ) (h : (ent₁ Γ ny nd).1.Mod → (array_of D n).Denot)
+      (k : (ent₁ Γ ny nd).1.Mod → (array_here D n).Mod)
+      → Yields w (λ ρ. Unit) (ty_array_of D n) (ent₁ Γ ny nd).1 (array_here D n) (array_of D n) h k
+      → Roomy w (ent₂ Γ ny nd).1 (ty_array_of D n) → Is w (ent₁ Γ ny nd).0 (ty_array_of D n) → Is w (ent₂ Γ ny nd).0 (ty_array_of D n)
       → Step w Γ (assign (place (ent₂ Γ ny nd).0 []) (rv_opd (copy (place (ent₁ Γ ny nd).0 []))))
-      (AfterCopy Γ ny nd (arrayHere D n) (arrayHere D n))
-  copies-array n ny nd h k y tr e₁ e₂ =
-      copies_as (array_of D n) (tyArrayOf D n) (arrayHere D n) ny nd h k (λ x. x) y tr (made_array w D n) e₁ e₂
+      (AfterCopy Γ ny nd (array_here D n) (array_here D n))
+  copies_array n ny nd h k y tr e₁ e₂ =
+      copies_as (array_of D n) (ty_array_of D n) (array_here D n) ny nd h k (λ x. x) y tr (made_array w D n) e₁ e₂
 
 -- ---- functions
 

@@ -85,11 +85,11 @@ ty_of D = lone (struct_of D).mir
 abbrev pub array_of : Data → ℕ → RattleType
 array_of D n = Array (struct_of D) n
 
-abbrev pub tyArrayOf : Data → ℕ → Ty
-tyArrayOf D n = ty_array (ty_of D) n
+abbrev pub ty_array_of : Data → ℕ → Ty
+ty_array_of D n = ty_array (ty_of D) n
 
-abbrev pub arrayHere : Data → ℕ → Row
-arrayHere D n = arr_f (struct_of D) n 0
+abbrev pub array_here : Data → ℕ → Row
+array_here D n = arr_f (struct_of D) n 0
 
 abbrev pub copy_of : (D : Data) → Cp (struct_of D)
 copy_of D = c_struct D.type D.laws D.copies
@@ -116,11 +116,11 @@ valued_laws D M 𝓤 𝓛 = record {
   of_mem = whole_mem 𝓛 (struct_of D);
 }
 
-abbrev pub pData : {n : ℕ} → Data → ParamKind n
-pData D = p_val (valued D) (valued_laws D)
+abbrev pub p_data : {n : ℕ} → Data → ParamKind n
+p_data D = p_val (valued D) (valued_laws D)
 
-abbrev pub rData : {n : ℕ} → Data → ResultKind n
-rData D = r_val (valued D) (valued_laws D)
+abbrev pub r_data : {n : ℕ} → Data → ResultKind n
+r_data D = r_val (valued D) (valued_laws D)
 
 -- ---- arguments of a call
 
@@ -134,14 +134,14 @@ abbrev pub it : {X : Type 0} → X → X
 it x = x
 
 -- an argument that is passed by value, lent, or lent to be changed: where it stands, and what it is by what that local holds
-abbrev pub dAt : {L : List Entry} (D : Data) (pos : ℕ) → ((get_row pos L).1.Mod → (struct_of D).Denot) → ValAt (valued D) L
-dAt D pos f = record { pos = pos; st = []; d = 0; at = f }
+abbrev pub d_at : {L : List Entry} (D : Data) (pos : ℕ) → ((get_row pos L).1.Mod → (struct_of D).Denot) → ValAt (valued D) L
+d_at D pos f = record { pos = pos; st = []; d = 0; at = f }
 
-abbrev pub sAt : {L : List Entry} (R : RattleType) (pos : ℕ) (τ : Ty) → ((get_row pos L).1.Mod → Bor (List R.Denot)) → ShrSArg R L
-sAt R pos τ f = record { pos = pos; ty = τ; ref = f }
+abbrev pub s_at : {L : List Entry} (R : RattleType) (pos : ℕ) (τ : Ty) → ((get_row pos L).1.Mod → Bor (List R.Denot)) → ShrSArg R L
+s_at R pos τ f = record { pos = pos; ty = τ; ref = f }
 
-abbrev pub mAt : {L : List Entry} (R : RattleType) (pos : ℕ) (τ : Ty) → ((get_row pos L).1.Mod → Bor (List R.Denot)) → MutSArg R L
-mAt R pos τ f = record { pos = pos; ty = τ; ref = f }
+abbrev pub m_at : {L : List Entry} (R : RattleType) (pos : ℕ) (τ : Ty) → ((get_row pos L).1.Mod → Bor (List R.Denot)) → MutSArg R L
+m_at R pos τ f = record { pos = pos; ty = τ; ref = f }
 
 -- what is known of a function that is called: its kinds, what it asks, what it ensures, and its name
 pub record Callee {M : Type 1} {𝓤 : Ura M} (𝓛 : Logic 𝓤) (𝓣 : Tables 𝓤 𝓛.H) (n : ℕ) (ps : List (ParamKind n)) (r : ResultKind n)
@@ -195,11 +195,11 @@ module _ (w : At) where
   abbrev pub over : (σ : Sc) → Roomy (sc_here σ) (ty_s σ)
   over σ = room_Sc w w.W σ
 
-  abbrev pub over-data : (D : Data) → Roomy (whole (struct_of D)) (ty_of D)
-  over-data D = room_whole w w.W (struct_of D) (ty_of D) refl
+  abbrev pub over_data : (D : Data) → Roomy (whole (struct_of D)) (ty_of D)
+  over_data D = room_whole w w.W (struct_of D) (ty_of D) refl
 
-  abbrev pub over-array : (D : Data) (n : ℕ) → Roomy (arrayHere D n) (tyArrayOf D n)
-  over-array D n = room_arr w w.W (struct_of D) n 0 n (add-zero n)
+  abbrev pub over_array : (D : Data) (n : ℕ) → Roomy (array_here D n) (ty_array_of D n)
+  over_array D n = room_arr w w.W (struct_of D) n 0 n (add-zero n)
 
   abbrev pub like : (ρ : Row) → Like ρ ρ (λ x. x)
   like ρ = as_is w ρ
@@ -209,9 +209,9 @@ module _ (w : At) where
 
   -- what a call asks of a slice that it is lent, with what it asks of the arguments that follow
   module _ {E : Type 0} {X : Type 2} (R : RattleType) (τ : Ty) (β : ℕ) where
-    abbrev pub slice-arg : E → X
+    abbrev pub slice_arg : E → X
         → Spares w (sslice R τ β) (λ ρ x. (ShrSlice erased (lft ρ β) R).own_val x) × Shows (sslice R τ β) (slice_ty τ) slice_v × E × X
-    slice-arg e x = (Spares-sslice w w.W R τ β, reads_sslice w w.W R τ β, e, x)
+    slice_arg e x = (Spares-sslice w w.W R τ β, reads_sslice w w.W R τ β, e, x)
 
-    abbrev pub mut-arg : E → X → Like (mslice R τ β) (mslice R τ β) (λ x. x) × Shows (mslice R τ β) (slice_ty τ) slice_v × E × X
-    mut-arg e x = (like (mslice R τ β), reads_mslice w w.W R τ β, e, x)
+    abbrev pub mut_arg : E → X → Like (mslice R τ β) (mslice R τ β) (λ x. x) × Shows (mslice R τ β) (slice_ty τ) slice_v × E × X
+    mut_arg e x = (like (mslice R τ β), reads_mslice w w.W R τ β, e, x)

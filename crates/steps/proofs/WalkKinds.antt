@@ -10,7 +10,7 @@ use Rattle.store.specs.contracts.rows.Row as row
 use Rattle.store.proofs.rows.Row.TheLaws as row_laws
 use Rattle.uses.specs.contracts.lines.Pass as pass
 use Rattle.uses.proofs.lines.Pass.TheLaws as pass-laws
-use Rattle.steps.proofs.Derivations.{Ty, w64, Data, struct_of, pData, rData, bytes}
+use Rattle.steps.proofs.Derivations.{Ty, w64, Data, struct_of, p_data, r_data, bytes}
 
 abbrev pub Plans : Data
 Plans = record { type = plan.the_type; laws = plan-laws.the_laws; copies = plan-laws.the_copy; plain = plan-laws.the_plain }
@@ -27,7 +27,7 @@ row_named = pointee (row.the_row).written
 
 -- rows, s, t, a, mem, put, pass
 abbrev pub ps : List (ParamKind 2)
-ps = p_shr_s (struct_of Rows) 0 tt ∷ pData Plans ∷ p_num w64 ∷ p_num w64 ∷ p_mut_s bytes 1 tt ∷ p_bool ∷ pData Passes ∷ []
+ps = p_shr_s (struct_of Rows) 0 tt ∷ p_data Plans ∷ p_num w64 ∷ p_num w64 ∷ p_mut_s bytes 1 tt ∷ p_bool ∷ p_data Passes ∷ []
 
 abbrev pub r : ResultKind 2
-r = rData Passes
+r = r_data Passes

@@ -13,19 +13,19 @@ pub record Clearing (m₀ m : List ℕ) (i : ℕ) : Type 0 where
   pub up : i ≤ length m₀
   pub zeros : take i m ≡ replicate i 0
 
-pub clear-start : {m : List ℕ} → Clearing m m 0
-clear-start = record { long = refl; up = omega arith; zeros = refl }
+pub clear_start : {m : List ℕ} → Clearing m m 0
+clear_start = record { long = refl; up = omega arith; zeros = refl }
 
 module _ {m₀ m : List ℕ} {i : ℕ} (w : Clearing m₀ m i) where
-  pub clear-more : i < length m → Clearing m₀ (set m i 0) (i + 1)
-  clear-more h =
+  pub clear_more : i < length m → Clearing m₀ (set m i 0) (i + 1)
+  clear_more h =
       record {
         long = length-set m i 0 ∙ w.long;
         up = omega arith;
         zeros = rw (add-one i) (take-suc-set m i 0 h ∙ rw w.zeros (replicate-append-replicate i 1 0 ∙ rw (add-one i)));
       }
 
-  pub clear-end : length m ≤ i → m ≡ replicate (length m₀) 0
-  clear-end h =
+  pub clear_end : length m ≤ i → m ≡ replicate (length m₀) 0
+  clear_end h =
       let last : i ≡ length m₀ = omega (arith, w.long, w.up) in
       sym (take_all i m h) ∙ w.zeros ∙ rw last

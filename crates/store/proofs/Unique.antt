@@ -13,11 +13,11 @@ use contract.Lifetimes.{Lfts}
 use denote.Triple.Clauses.{AtExit}
 use borrow.Fn.Kinds.{Dens, res_t, ended_of}
 use Rattle.numbers.proofs.Unique.{same, Fixes}
-use Rattle.model.proofs.Unique.{first-same}
+use Rattle.model.proofs.Unique.{first_same}
 use Rattle.store.specs.declared.rows.Row.{Row}
 use Rattle.store.specs.Marking.{Is, NextMark, here, nowhere}
 use Rattle.store.specs.Clearing.{Cleared}
-use Rattle.store.specs.Reading.{zeroRow, nth, Unpacked}
+use Rattle.store.specs.Reading.{zero_row, nth, Unpacked}
 use Rattle.store.proofs.marks.has.Reads as has
 use Rattle.store.proofs.marks.has.Kinds as has-kinds
 use Rattle.store.proofs.marks.some.Reads as some
@@ -42,28 +42,28 @@ use Rattle.store.proofs.rows.step_rows.Kinds as step-rows-kinds
 -- ---- what is said other than by an equation
 
 -- what has, some and lacks answer
-pub is-unique : (A : Type 0) (r r' : Bool) → Is A r → Is A r' → r ≡ r'
-is-unique A true true a b = refl
-is-unique A true false a b = absurd (b a)
-is-unique A false true a b = absurd (a b)
-is-unique A false false a b = refl
+pub is_unique : (A : Type 0) (r r' : Bool) → Is A r → Is A r' → r ≡ r'
+is_unique A true true a b = refl
+is_unique A true false a b = absurd (b a)
+is_unique A false true a b = absurd (a b)
+is_unique A false false a b = refl
 
-pub next-unique : {m : List ℕ} {from w p q : ℕ} → NextMark m from w p → NextMark m from w q → p ≡ q
-next-unique (here f) (here g) = first-same f g
-next-unique (here f) (nowhere n) = absurd (n _ f.here)
-next-unique (nowhere n) (here g) = absurd (n _ g.here)
-next-unique (nowhere n) (nowhere _) = refl
+pub next_unique : {m : List ℕ} {from w p q : ℕ} → NextMark m from w p → NextMark m from w q → p ≡ q
+next_unique (here f) (here g) = first_same f g
+next_unique (here f) (nowhere n) = absurd (n _ f.here)
+next_unique (nowhere n) (here g) = absurd (n _ g.here)
+next_unique (nowhere n) (nowhere _) = refl
 
 -- a memory is one by its two parts
 pub parts_same : (w : ℕ) {m m' : List ℕ} → take w m ≡ take w m' → drop w m ≡ drop w m' → m ≡ m'
 parts_same w {m} {m'} e q = sym (take-append-drop w m) ∙ ap₂ (λ (x y : List ℕ). x ++ y) e q ∙ take-append-drop w m'
 
-pub cleared-unique : {w : ℕ} {m m₁ m₂ : List ℕ} → Cleared w m m₁ → Cleared w m m₂ → m₁ ≡ m₂
-cleared-unique {w} c c' = parts_same w (same c.zeros c'.zeros) (same c.rest c'.rest)
+pub cleared_unique : {w : ℕ} {m m₁ m₂ : List ℕ} → Cleared w m m₁ → Cleared w m m₂ → m₁ ≡ m₂
+cleared_unique {w} c c' = parts_same w (same c.zeros c'.zeros) (same c.rest c'.rest)
 
-pub listed-unique : {bytes : List ℕ} {n : ℕ} {rows rows' : List Row} → length rows ≡ length rows' → Unpacked bytes n rows → Unpacked bytes n rows'
+pub listed_unique : {bytes : List ℕ} {n : ℕ} {rows rows' : List Row} → length rows ≡ length rows' → Unpacked bytes n rows → Unpacked bytes n rows'
     → rows ≡ rows'
-listed-unique {n} {rows} {rows'} long z z' = ext_get_or zeroRow rows rows' long (λ k l. each k (dec_lt k n))
+listed_unique {n} {rows} {rows'} long z z' = ext_get_or zero_row rows rows' long (λ k l. each k (dec_lt k n))
   where
     each : (k : ℕ) → Dec (k < n) → nth rows k ≡ nth rows' k
     each k (yes l) = same (z.read k l) (z'.read k l)
@@ -71,43 +71,43 @@ listed-unique {n} {rows} {rows'} long z z' = ext_get_or zeroRow rows rows' long 
 
 -- ---- the contracts as the prover reads them from the source
 
-pub has-fixes : Fixes has-kinds.ps has-kinds.r has.Post
-has-fixes κs a x x' s s' = is-unique _ x x'
+pub has_fixes : Fixes has-kinds.ps has-kinds.r has.Post
+has_fixes κs a x x' s s' = is_unique _ x x'
 
-pub some-fixes : Fixes some-kinds.ps some-kinds.r some.Post
-some-fixes κs a x x' s s' = is-unique _ x x'
+pub some_fixes : Fixes some-kinds.ps some-kinds.r some.Post
+some_fixes κs a x x' s s' = is_unique _ x x'
 
-pub lacks-fixes : Fixes lacks-kinds.ps lacks-kinds.r lacks.Post
-lacks-fixes κs a x x' s s' = is-unique _ x x'
+pub lacks_fixes : Fixes lacks-kinds.ps lacks-kinds.r lacks.Post
+lacks_fixes κs a x x' s s' = is_unique _ x x'
 
-pub next-mark-fixes : Fixes next-mark-kinds.ps next-mark-kinds.r next-mark.Post
-next-mark-fixes κs a x x' s s' = next-unique
+pub next_mark_fixes : Fixes next-mark-kinds.ps next-mark-kinds.r next-mark.Post
+next_mark_fixes κs a x x' s s' = next_unique
 
-pub cell-fixes : Fixes cell-kinds.ps cell-kinds.r cell.Post
-cell-fixes κs a x x' s s' = same
+pub cell_fixes : Fixes cell-kinds.ps cell-kinds.r cell.Post
+cell_fixes κs a x x' s s' = same
 
-pub row-at-fixes : Fixes row-at-kinds.ps row-at-kinds.r row_at.Post
-row-at-fixes κs a x x' s s' = same
+pub row_at_fixes : Fixes row-at-kinds.ps row-at-kinds.r row_at.Post
+row_at_fixes κs a x x' s s' = same
 
 -- a list of rows is as long as its type says
-pub step-rows-fixes : (κs : Lfts 1) (a : Dens κs step-rows-kinds.ps) (x x' : List Row)
+pub step_rows_fixes : (κs : Lfts 1) (a : Dens κs step-rows-kinds.ps) (x x' : List Row)
     (s s' : AtExit (ended_of 1 step-rows-kinds.ps step-rows-kinds.r) κs)
     → length x ≡ 1024 → length x' ≡ 1024 → step-rows.Post κs a x s → step-rows.Post κs a x' s' → x ≡ x'
-step-rows-fixes κs a x x' s s' l l' = listed-unique (same l l')
+step_rows_fixes κs a x x' s s' l l' = listed_unique (same l l')
 
 -- ---- and every byte of the memory
 
-pub put-mark-fixes : (κs : Lfts 1) (a : Dens κs put-mark-kinds.ps) (x x' : (res_t put-mark-kinds.r κs).Denot)
+pub put_mark_fixes : (κs : Lfts 1) (a : Dens κs put-mark-kinds.ps) (x x' : (res_t put-mark-kinds.r κs).Denot)
     (s s' : AtExit (ended_of 1 put-mark-kinds.ps put-mark-kinds.r) κs)
     → put-mark.Post κs a x s → put-mark.Post κs a x' s' → s.0.now ≡ s'.0.now
-put-mark-fixes κs a x x' s s' = same
+put_mark_fixes κs a x x' s s' = same
 
-pub clear-fixes : (κs : Lfts 1) (a : Dens κs clear-kinds.ps) (x x' : (res_t clear-kinds.r κs).Denot)
+pub clear_fixes : (κs : Lfts 1) (a : Dens κs clear-kinds.ps) (x x' : (res_t clear-kinds.r κs).Denot)
     (s s' : AtExit (ended_of 1 clear-kinds.ps clear-kinds.r) κs)
     → clear.Post κs a x s → clear.Post κs a x' s' → s.0.now ≡ s'.0.now
-clear-fixes κs a x x' s s' = same
+clear_fixes κs a x x' s s' = same
 
-pub clear-first-fixes : (κs : Lfts 1) (a : Dens κs clear-first-kinds.ps) (x x' : (res_t clear-first-kinds.r κs).Denot)
+pub clear_first_fixes : (κs : Lfts 1) (a : Dens κs clear-first-kinds.ps) (x x' : (res_t clear-first-kinds.r κs).Denot)
     (s s' : AtExit (ended_of 1 clear-first-kinds.ps clear-first-kinds.r) κs)
     → clear_first.Post κs a x s → clear_first.Post κs a x' s' → s.0.now ≡ s'.0.now
-clear-first-fixes κs a x x' s s' = cleared-unique
+clear_first_fixes κs a x x' s s' = cleared_unique

@@ -18,27 +18,27 @@ row_of rows i =
     }
 
 -- what stands where there is no row
-abbrev pub zeroRow : Row
-zeroRow = record { t = 0; g = 0; l = 0; u = 0; v = 0 }
+abbrev pub zero_row : Row
+zero_row = record { t = 0; g = 0; l = 0; u = 0; v = 0 }
 
 -- row k of a list of rows; past its end, a row of zeros
 abbrev pub nth : List Row → ℕ → Row
-nth rows k = get_or rows k zeroRow
+nth rows k = get_or rows k zero_row
 
 -- a list of rows has the first n rows of a list of bytes, and rows of zeros after them
 pub record Unpacked (bytes : List ℕ) (n : ℕ) (rows : List Row) : Type 0 where
   pub read : (k : ℕ) → k < n → nth rows k ≡ row_of bytes k
-  pub rest : (k : ℕ) → n ≤ k → nth rows k ≡ zeroRow
+  pub rest : (k : ℕ) → n ≤ k → nth rows k ≡ zero_row
 
 -- the row as each of the three kinds
-abbrev pub asStep : Row → Step
-asStep r = record { t = r.t; g = r.g; l = r.l; g' = r.u; l' = r.v }
+abbrev pub as_step : Row → Step
+as_step r = record { t = r.t; g = r.g; l = r.l; g' = r.u; l' = r.v }
 
-abbrev pub asPush : Row → Push
-asPush r = record { t = r.t; g = r.g; l = r.l; l' = r.u; f = r.v }
+abbrev pub as_push : Row → Push
+as_push r = record { t = r.t; g = r.g; l = r.l; l' = r.u; f = r.v }
 
-abbrev pub asPop : Row → Pop
-asPop r = record { t = r.t; g = r.g; l = r.l; f = r.u; l' = r.v }
+abbrev pub as_pop : Row → Pop
+as_pop r = record { t = r.t; g = r.g; l = r.l; f = r.u; l' = r.v }
 
 -- a is one of the first n rows
 pub record Nth {A : Type 0} (of : Row → A) (rows : List ℕ) (n : ℕ) (a : A) : Type 0 where
@@ -53,6 +53,6 @@ pub record Same {A : Type 0} (of : Row → A) (rows : List ℕ) (n : ℕ) (l : L
 
 -- the lent rows are the table's
 pub record Reads (T : Table) (n : RowCounts) (st pu po : List ℕ) : Type 0 where
-  pub steps : Same asStep st n.steps T.steps
-  pub pushes : Same asPush pu n.pushes T.pushes
-  pub pops : Same asPop po n.pops T.pops
+  pub steps : Same as_step st n.steps T.steps
+  pub pushes : Same as_push pu n.pushes T.pushes
+  pub pops : Same as_pop po n.pops T.pops

@@ -1,6 +1,6 @@
 // The rows of a table as they are lent: a slice of bytes for each kind, five bytes a row; and a list of row structs.
 ghost use Rattle.std.specs.Prelude.{◌≡◌, ◌+◌, ◌*◌, ◌<◌, ◌≤◌, length, get_or};
-ghost use Rattle.files.specs.Table.{mostSteps};
+ghost use Rattle.files.specs.Table.{most_steps};
 ghost use Rattle.store.specs.Reading.{row_of, Unpacked};
 
 use files::table::STEP_ROWS;
@@ -59,7 +59,7 @@ pub fn row_at(rows: &[u8], i: usize) -> Row
 
 // The first n step rows as a list of structs, and rows of zeros after them.
 pub fn step_rows(steps: &[u8], n: usize) -> [Row; STEP_ROWS]
-    requires { (n ≤ mostSteps) × (n * 5 ≤ length steps.now) }
+    requires { (n ≤ most_steps) × (n * 5 ≤ length steps.now) }
     ensures { Unpacked steps.now n result }
 {
     let zeros = Row {

@@ -2,31 +2,31 @@
 use mathlib.Core.Path.{◌≡◌, refl}
 use mathlib.Core.List.{[], ◌∷◌, ◌++◌}
 use Rattle.words.specs.Text.{bytes, digits, decimal, fields, line, note}
-use Rattle.text.specs.Listing.{factsLine, possibleLine, refusedLine, bytesLine, acceptedLine, claimRefusedLine}
-use Rattle.text.specs.Reasons.{reasons, reasonLine}
+use Rattle.text.specs.Listing.{facts_line, possible_line, refused_line, bytes_line, accepted_line, claim_refused_line}
+use Rattle.text.specs.Reasons.{reasons, reason_line}
 
 -- the true/false mutex, and empty input
-mutex : possibleLine 0 0 (0 ∷ 6 ∷ []) ≡ bytes "verdict possible 0 0 0 6\n"
+mutex : possible_line 0 0 (0 ∷ 6 ∷ []) ≡ bytes "verdict possible 0 0 0 6\n"
 unfolding digits decimal fields line
 mutex = refl
 
-empty-input : refusedLine 1 0 ≡ bytes "refused 1 0\n"
+empty_input : refused_line 1 0 ≡ bytes "refused 1 0\n"
 unfolding digits decimal fields line
-empty-input = refl
+empty_input = refl
 
 -- the largest room, and the largest number of 64 bits
-largest : factsLine 2360320 ++ factsLine 18446744073709551615 ≡ bytes "facts 2360320\nfacts 18446744073709551615\n"
+largest : facts_line 2360320 ++ facts_line 18446744073709551615 ≡ bytes "facts 2360320\nfacts 18446744073709551615\n"
 unfolding digits decimal fields line
 largest = refl
 
 -- the recursion table's claims: the facts written, accepted; position 23 lacking; a claim of the version alone
-claims : bytesLine 7 ++ acceptedLine 5 ++ claimRefusedLine 10 23 0 ++ claimRefusedLine 1 1 1
+claims : bytes_line 7 ++ accepted_line 5 ++ claim_refused_line 10 23 0 ++ claim_refused_line 1 1 1
     ≡ bytes "bytes 7\naccepted 5\nrefused 10 23 0\nrefused 1 1 1\n"
 unfolding digits decimal fields line
 claims = refl
 
 -- what the last two are refused for; 0 and a number above 12 have no line
-refused-for : reasonLine 10 23 0 ++ reasonLine 1 1 1 ++ reasonLine 0 5 0 ++ reasonLine 13 0 0
+refused_for : reason_line 10 23 0 ++ reason_line 1 1 1 ++ reason_line 0 5 0 ++ reason_line 13 0 0
     ≡ bytes "position 23: a rule gives this fact, and the claim lacks it\nclaim byte 1: the file ends here, and more is due\n"
 unfolding digits decimal note reasons
-refused-for = refl
+refused_for = refl

@@ -22,9 +22,9 @@ reasons byte v =
     ∷ []
 
 -- the line of a number; one above 12 has none
-abbrev pub reasonOf : List ℕ → ℕ → ℕ → List ℕ
-reasonOf byte value number = get_or (reasons byte value) number []
+abbrev pub reason_of : List ℕ → ℕ → ℕ → List ℕ
+reason_of byte value number = get_or (reasons byte value) number []
 
 -- the line of an answer by its number, value and origin: 1 is the claim's
-abbrev pub reasonLine : ℕ → ℕ → ℕ → List ℕ
-reasonLine number value origin = reasonOf (cond (eqb origin 1) (bytes "claim byte") (bytes "byte")) value number
+abbrev pub reason_line : ℕ → ℕ → ℕ → List ℕ
+reason_line number value origin = reason_of (cond (eqb origin 1) (bytes "claim byte") (bytes "byte")) value number

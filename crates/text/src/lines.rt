@@ -1,7 +1,7 @@
 // The lines of the listing, and those of the programs on claims.
 ghost use Rattle.std.specs.Prelude.{min, ◌≡◌, ◌∷◌, take};
 ghost use Rattle.words.specs.Text.{Written};
-ghost use Rattle.text.specs.Listing.{factsLine, safeLine, possibleLine, refusedLine, bytesLine, acceptedLine, claimRefusedLine};
+ghost use Rattle.text.specs.Listing.{facts_line, safe_line, possible_line, refused_line, bytes_line, accepted_line, claim_refused_line};
 
 use words::line::put_line;
 
@@ -10,14 +10,14 @@ pub const ROOM: usize = 160;
 
 // The line of the number of facts.
 pub fn facts_line(count: usize, out: &mut [u8; ROOM]) -> usize
-    ensures { Written (factsLine count) out.old out.new result }
+    ensures { Written (facts_line count) out.old out.new result }
 {
     put_line(out, b"facts", &[count])
 }
 
 // The line of the verdict "safe".
 pub fn safe_line(out: &mut [u8; ROOM]) -> usize
-    ensures { Written safeLine out.old out.new result }
+    ensures { Written safe_line out.old out.new result }
 {
     put_line(out, b"verdict safe", &[])
 }
@@ -44,7 +44,7 @@ pub fn possible_line(
     n: usize,
     out: &mut [u8; ROOM],
 ) -> usize
-    ensures { Written (possibleLine row g (take n locals)) out.old out.new result }
+    ensures { Written (possible_line row g (take n locals)) out.old out.new result }
 {
     let numbers = witness_numbers(row, g, locals);
     let count = 2 + at_most_four(n);
@@ -53,28 +53,28 @@ pub fn possible_line(
 
 // The line of a refusal, with its number and its value.
 pub fn refused_line(number: usize, value: usize, out: &mut [u8; ROOM]) -> usize
-    ensures { Written (refusedLine number value) out.old out.new result }
+    ensures { Written (refused_line number value) out.old out.new result }
 {
     put_line(out, b"refused", &[number, value])
 }
 
 // The line of the number of bytes that a written claim takes.
 pub fn bytes_line(count: usize, out: &mut [u8; ROOM]) -> usize
-    ensures { Written (bytesLine count) out.old out.new result }
+    ensures { Written (bytes_line count) out.old out.new result }
 {
     put_line(out, b"bytes", &[count])
 }
 
 // The line of a claim that is accepted, with the number of facts that it claims.
 pub fn accepted_line(count: usize, out: &mut [u8; ROOM]) -> usize
-    ensures { Written (acceptedLine count) out.old out.new result }
+    ensures { Written (accepted_line count) out.old out.new result }
 {
     put_line(out, b"accepted", &[count])
 }
 
 // The line of a claim check's refusal, with its number, its value and its origin.
 pub fn claim_refused_line(number: usize, value: usize, origin: usize, out: &mut [u8; ROOM]) -> usize
-    ensures { Written (claimRefusedLine number value origin) out.old out.new result }
+    ensures { Written (claim_refused_line number value origin) out.old out.new result }
 {
     put_line(out, b"refused", &[number, value, origin])
 }

@@ -1,7 +1,7 @@
 // What a refusal says in words, for the person who has to mend the file or the call.
 ghost use Rattle.std.specs.Prelude.{List, ℕ, ◌<◌, ◌≤◌, length};
 ghost use Rattle.words.specs.Text.{Written};
-ghost use Rattle.text.specs.Reasons.{reasonOf, reasonLine};
+ghost use Rattle.text.specs.Reasons.{reason_of, reason_line};
 
 use crate::lines::ROOM;
 use words::line::put_note;
@@ -9,7 +9,7 @@ use words::line::put_note;
 // What the readers' refusals say, 1 to 6; `byte` names the file whose byte the value is.
 fn reader_reason(number: usize, value: usize, byte: &[u8], out: &mut [u8; ROOM]) -> usize
     requires { (number < 7) × (length byte.now ≤ 10) }
-    ensures { Written (reasonOf byte.now value number) out.old out.new result }
+    ensures { Written (reason_of byte.now value number) out.old out.new result }
 {
     match number {
         1 => put_note(out, byte, value, b": the file ends here, and more is due"),
@@ -35,7 +35,7 @@ fn reader_reason(number: usize, value: usize, byte: &[u8], out: &mut [u8; ROOM])
 // What the other refusals say, 7 to 12; no file's byte is in them, so it holds for any `byte`.
 fn call_reason(number: usize, value: usize, out: &mut [u8; ROOM]) -> usize
     requires { 7 ≤ number }
-    ensures { (byte : List ℕ) → Written (reasonOf byte value number) out.old out.new result }
+    ensures { (byte : List ℕ) → Written (reason_of byte value number) out.old out.new result }
 {
     match number {
         7 => put_note(
@@ -65,7 +65,7 @@ fn call_reason(number: usize, value: usize, out: &mut [u8; ROOM]) -> usize
 
 // What a refusal says, by its number, value and origin. Gives the line's length; 0 and a number above 12 are no refusal, and its length is 0.
 pub fn reason_line(number: usize, value: usize, origin: usize, out: &mut [u8; ROOM]) -> usize
-    ensures { Written (reasonLine number value origin) out.old out.new result }
+    ensures { Written (reason_line number value origin) out.old out.new result }
 {
     if 7 <= number {
         return call_reason(number, value, out);

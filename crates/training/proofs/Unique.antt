@@ -5,8 +5,8 @@ use Rattle.training.proofs.file.Kinds as file-kinds
 use Rattle.training.proofs.mutex_file.Reads as mutex-file
 use Rattle.training.proofs.mutex_file.Kinds as mutex-file-kinds
 
-pub file-fixes : Fixes file-kinds.ps file-kinds.r file.Post
-file-fixes κs a x x' s s' = same
+pub file_fixes : Fixes file-kinds.ps file-kinds.r file.Post
+file_fixes κs a x x' s s' = same
 
-pub mutex-file-fixes : Fixes mutex-file-kinds.ps mutex-file-kinds.r mutex-file.Post
-mutex-file-fixes κs a x x' s s' = same
+pub mutex_file_fixes : Fixes mutex-file-kinds.ps mutex-file-kinds.r mutex-file.Post
+mutex_file_fixes κs a x x' s s' = same

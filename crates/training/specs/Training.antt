@@ -35,8 +35,8 @@ abbrev store : ℕ → ℕ
 store location = location - 1
 
 -- the local store of a thread whose assertion failed
-abbrev failedStore : ℕ
-failedStore = 6
+abbrev failed_store : ℕ
+failed_store = 6
 
 -- a store where 0 is taken: by "any" in an error row, by "no failed store" in the header
 abbrev cell : ℕ → ℕ
@@ -60,7 +60,7 @@ module _ (mark : ℕ → ℕ) (t m x : ℕ) where
       only (eqb m 0) (row 1 (shared (mark t) x) (store 2))  -- acquire, where the mutex is free
       ++ row 2 (shared m 0) (store 3) ∷ []  -- x := 0
       ++ only (eqb x 0) (row 3 (shared m (x + 1)) (store 4))  -- x := x + 1, within the variable's two values
-      ++ row 4 (shared m x) (cond (eqb x 1) (store 5) failedStore) ∷ []  -- assert x > 0
+      ++ row 4 (shared m x) (cond (eqb x 1) (store 5) failed_store) ∷ []  -- assert x > 0
       ++ row 5 (shared 0 x) (store 6) ∷ []  -- release
 
 -- ---- the error rows
@@ -98,7 +98,7 @@ simple threads mutexes mark errors =
       G = length mutexes * 2;
       L = 7;
       F = 0;
-      failed = cell failedStore;
+      failed = cell failed_store;
       g₀ = shared 0 1;
       locals = replicate (length threads) (store 1);
       steps = each threads λ t. each mutexes λ m. each (0 ∷ 1 ∷ []) λ x. statements mark t m x;

@@ -1,7 +1,7 @@
 // The training table of document 01, built in: the program Simple of document 004 with three threads; and its table of two threads with a
 // true/false mutex.
 ghost use Rattle.std.specs.Prelude.{◌≡◌};
-ghost use Rattle.files.specs.Layout.{numbersOf};
+ghost use Rattle.files.specs.Layout.{numbers_of};
 ghost use Rattle.training.specs.Training.{training, mutex};
 
 // 576 numbers, all below 128, so that each is one byte of the file. The step rows of a thread at a shared store have a line.
@@ -70,14 +70,14 @@ const MUTEX: [u8; 173] = [
 
 // The file of the training table.
 pub fn file() -> [u8; 576]
-    ensures { result ≡ numbersOf training }
+    ensures { result ≡ numbers_of training }
 {
     TRAINING
 }
 
 // The file of the table with the true/false mutex.
 pub fn mutex_file() -> [u8; 173]
-    ensures { result ≡ numbersOf mutex }
+    ensures { result ≡ numbers_of mutex }
 {
     MUTEX
 }

@@ -7,15 +7,15 @@ use contract.Lifetimes.{Lfts}
 use denote.Triple.Clauses.{AtExit}
 use borrow.Fn.Kinds.{Dens, ended_of}
 use Rattle.check_call.specs.declared.answer.Answer.{Answer}
-use Rattle.check_call.specs.Answers.{replyOf}
-use Rattle.check_call.proofs.Unique.{checked-same}
+use Rattle.check_call.specs.Answers.{reply_of}
+use Rattle.check_call.proofs.Unique.{checked_same}
 use Rattle.claim_check_call.specs.declared.answer.ClaimAnswer.{ClaimAnswer}
 use Rattle.claim_write_call.specs.declared.answer.WriteAnswer.{WriteAnswer}
 use Rattle.claim_check_call.specs.Answers as claim
-use Rattle.claim_write_call.specs.Answers.{writeReplyOf}
-use Rattle.claim_check_call.proofs.Unique.{claim-checked-same}
-use Rattle.claim_write_call.proofs.Unique.{claim-written-same}
-use Rattle.truppidane.specs.Told.{checkNumbers, writeNumbers, claimNumbers}
+use Rattle.claim_write_call.specs.Answers.{write_reply_of}
+use Rattle.claim_check_call.proofs.Unique.{claim_checked_same}
+use Rattle.claim_write_call.proofs.Unique.{claim_written_same}
+use Rattle.truppidane.specs.Told.{check_numbers, write_numbers, claim_numbers}
 use Rattle.truppidane.specs.Calls.{CheckTold, WriteTold, ClaimTold}
 use Rattle.truppidane.proofs.calls.truppidane_check.Reads as check
 use Rattle.truppidane.proofs.calls.truppidane_check.Kinds as check-kinds
@@ -28,43 +28,43 @@ use Rattle.truppidane.proofs.calls.truppidane_check_claim.Kinds as check-claim-k
 told_same : {A B : Type 0} (f : A → B) {a b : A} {x y : B} → a ≡ b → x ≡ f a → y ≡ f b → x ≡ y
 told_same f e p q = p ∙ ap f e ∙ sym q
 
-pub check-told-same : {s : List ℕ} {budget : ℕ} {m : List ℕ} {r r' : ℕ} {m₁ m₂ told told' : List ℕ}
+pub check_told_same : {s : List ℕ} {budget : ℕ} {m : List ℕ} {r r' : ℕ} {m₁ m₂ told told' : List ℕ}
     → CheckTold s budget m r m₁ told → CheckTold s budget m r' m₂ told' → (r ≡ r') × (m₁ ≡ m₂) × (told ≡ told')
-check-told-same x y =
-    let (e, bytes) = checked-same x.checked y.checked in
-    (told_same (λ (a : Answer). (replyOf a).number) e x.number y.number, bytes, told_same checkNumbers e x.numbers y.numbers)
+check_told_same x y =
+    let (e, bytes) = checked_same x.checked y.checked in
+    (told_same (λ (a : Answer). (reply_of a).number) e x.number y.number, bytes, told_same check_numbers e x.numbers y.numbers)
 
-pub write-told-same : {s : List ℕ} {budget : ℕ} {m d : List ℕ} {r r' : ℕ} {m₁ m₂ d₁ d₂ told told' : List ℕ}
+pub write_told_same : {s : List ℕ} {budget : ℕ} {m d : List ℕ} {r r' : ℕ} {m₁ m₂ d₁ d₂ told told' : List ℕ}
     → WriteTold s budget m d r m₁ d₁ told → WriteTold s budget m d r' m₂ d₂ told'
     → (r ≡ r') × (m₁ ≡ m₂) × (d₁ ≡ d₂) × (told ≡ told')
-write-told-same x y =
-    let (e, bytes, space) = claim-written-same x.written y.written in (
-      told_same (λ (a : WriteAnswer). (writeReplyOf a).number) e x.number y.number,
+write_told_same x y =
+    let (e, bytes, space) = claim_written_same x.written y.written in (
+      told_same (λ (a : WriteAnswer). (write_reply_of a).number) e x.number y.number,
       bytes,
       space,
-      told_same writeNumbers e x.numbers y.numbers,
+      told_same write_numbers e x.numbers y.numbers,
     )
 
-pub claim-told-same : {s c m : List ℕ} {r r' : ℕ} {m₁ m₂ told told' : List ℕ}
+pub claim_told_same : {s c m : List ℕ} {r r' : ℕ} {m₁ m₂ told told' : List ℕ}
     → ClaimTold s c m r m₁ told → ClaimTold s c m r' m₂ told' → (r ≡ r') × (m₁ ≡ m₂) × (told ≡ told')
-claim-told-same x y =
-    let (e, bytes) = claim-checked-same x.checked y.checked in
-    (told_same (λ (a : ClaimAnswer). (claim.claimReplyOf a).number) e x.number y.number, bytes, told_same claimNumbers e x.numbers y.numbers)
+claim_told_same x y =
+    let (e, bytes) = claim_checked_same x.checked y.checked in
+    (told_same (λ (a : ClaimAnswer). (claim.claim_reply_of a).number) e x.number y.number, bytes, told_same claim_numbers e x.numbers y.numbers)
 
 -- ---- the contracts as the prover reads them from the source
 
-pub check-fixes : (κs : Lfts 3) (a : Dens κs check-kinds.ps) (x x' : ℕ) (s s' : AtExit (ended_of 3 check-kinds.ps check-kinds.r) κs)
+pub check_fixes : (κs : Lfts 3) (a : Dens κs check-kinds.ps) (x x' : ℕ) (s s' : AtExit (ended_of 3 check-kinds.ps check-kinds.r) κs)
     → check.Post κs a x s → check.Post κs a x' s'
     → (x ≡ x') × (s.1.0.now ≡ s'.1.0.now) × (s.1.1.1.0.now ≡ s'.1.1.1.0.now)
-check-fixes κs a x x' s s' = check-told-same
+check_fixes κs a x x' s s' = check_told_same
 
-pub write-claim-fixes : (κs : Lfts 4) (a : Dens κs write-kinds.ps) (x x' : ℕ) (s s' : AtExit (ended_of 4 write-kinds.ps write-kinds.r) κs)
+pub write_claim_fixes : (κs : Lfts 4) (a : Dens κs write-kinds.ps) (x x' : ℕ) (s s' : AtExit (ended_of 4 write-kinds.ps write-kinds.r) κs)
     → write.Post κs a x s → write.Post κs a x' s'
     → (x ≡ x') × (s.1.0.now ≡ s'.1.0.now) × (s.1.1.1.0.now ≡ s'.1.1.1.0.now) × (s.1.1.1.1.0.now ≡ s'.1.1.1.1.0.now)
-write-claim-fixes κs a x x' s s' = write-told-same
+write_claim_fixes κs a x x' s s' = write_told_same
 
-pub check-claim-fixes : (κs : Lfts 4) (a : Dens κs check-claim-kinds.ps) (x x' : ℕ)
+pub check_claim_fixes : (κs : Lfts 4) (a : Dens κs check-claim-kinds.ps) (x x' : ℕ)
     (s s' : AtExit (ended_of 4 check-claim-kinds.ps check-claim-kinds.r) κs)
     → check-claim.Post κs a x s → check-claim.Post κs a x' s'
     → (x ≡ x') × (s.1.1.0.now ≡ s'.1.1.0.now) × (s.1.1.1.0.now ≡ s'.1.1.1.0.now)
-check-claim-fixes κs a x x' s s' = claim-told-same
+check_claim_fixes κs a x x' s s' = claim_told_same

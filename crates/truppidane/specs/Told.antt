@@ -6,50 +6,50 @@ use Rattle.verdict.specs.declared.search.Verdict.TheVariants.{Safe, Possible}
 use Rattle.check_call.specs.declared.answer.Answer.{Answer}
 use Rattle.check_call.specs.declared.answer.Answer.TheVariants as check
 use Rattle.check_call.specs.declared.answer.Reply.{Reply}
-use Rattle.check_call.specs.Answers.{replyOf}
+use Rattle.check_call.specs.Answers.{reply_of}
 use Rattle.claim_check_call.specs.declared.answer.ClaimAnswer.{ClaimAnswer}
 use Rattle.claim_write_call.specs.declared.answer.WriteAnswer.{WriteAnswer}
 use Rattle.claim_check_call.specs.Answers as claim
-use Rattle.claim_write_call.specs.Answers.{writeReplyOf, whereWritten}
+use Rattle.claim_write_call.specs.Answers.{write_reply_of, where_written}
 use Rattle.truppidane.specs.declared.told.VerdictNumbers.{VerdictNumbers}
 
 -- the numbers in their order
-abbrev pub toldNumbers : Reply → VerdictNumbers → ℕ → List ℕ
-toldNumbers reply judged bytes =
+abbrev pub told_numbers : Reply → VerdictNumbers → ℕ → List ℕ
+told_numbers reply judged bytes =
     reply.number ∷ reply.origin ∷ reply.value
     ∷ judged.verdict ∷ judged.row ∷ judged.g ∷ judged.l0 ∷ judged.l1 ∷ judged.l2 ∷ judged.l3
     ∷ bytes ∷ []
 
 -- ---- the verdict: 0 for none, 1 for "safe", 2 for "possible"
 
-abbrev pub noVerdict : VerdictNumbers
-noVerdict = record { verdict = 0; row = 0; g = 0; l0 = 0; l1 = 0; l2 = 0; l3 = 0 }
+abbrev pub no_verdict : VerdictNumbers
+no_verdict = record { verdict = 0; row = 0; g = 0; l0 = 0; l1 = 0; l2 = 0; l3 = 0 }
 
-abbrev pub ofVerdict : Verdict → VerdictNumbers
-ofVerdict Safe = record { verdict = 1; row = 0; g = 0; l0 = 0; l1 = 0; l2 = 0; l3 = 0 }
-ofVerdict (Possible row g l0 l1 l2 l3) = record { verdict = 2; row = row; g = g; l0 = l0; l1 = l1; l2 = l2; l3 = l3 }
+abbrev pub of_verdict : Verdict → VerdictNumbers
+of_verdict Safe = record { verdict = 1; row = 0; g = 0; l0 = 0; l1 = 0; l2 = 0; l3 = 0 }
+of_verdict (Possible row g l0 l1 l2 l3) = record { verdict = 2; row = row; g = g; l0 = l0; l1 = l1; l2 = l2; l3 = l3 }
 
 -- "A finished check or claim writing also gives the verdict"
-abbrev pub checkVerdict : Answer → VerdictNumbers
-checkVerdict (check.Done count verdict) = ofVerdict verdict
-checkVerdict (check.Refused refusal) = noVerdict
-checkVerdict (check.Short w) = noVerdict
-checkVerdict (check.Over budget) = noVerdict
+abbrev pub check_verdict : Answer → VerdictNumbers
+check_verdict (check.Done count verdict) = of_verdict verdict
+check_verdict (check.Refused refusal) = no_verdict
+check_verdict (check.Short w) = no_verdict
+check_verdict (check.Over budget) = no_verdict
 
-abbrev pub writeVerdict : WriteAnswer → VerdictNumbers
-writeVerdict = whereWritten (λ verdict bytes. ofVerdict verdict) noVerdict
+abbrev pub write_verdict : WriteAnswer → VerdictNumbers
+write_verdict = where_written (λ verdict bytes. of_verdict verdict) no_verdict
 
 -- "On 0 every call that writes a file, claim or text also gives the number of bytes written."
-abbrev pub writeBytes : WriteAnswer → ℕ
-writeBytes = whereWritten (λ verdict bytes. bytes) 0
+abbrev pub write_bytes : WriteAnswer → ℕ
+write_bytes = where_written (λ verdict bytes. bytes) 0
 
 -- ---- the answers
 
-abbrev pub checkNumbers : Answer → List ℕ
-checkNumbers answer = toldNumbers (replyOf answer) (checkVerdict answer) 0
+abbrev pub check_numbers : Answer → List ℕ
+check_numbers answer = told_numbers (reply_of answer) (check_verdict answer) 0
 
-abbrev pub writeNumbers : WriteAnswer → List ℕ
-writeNumbers answer = toldNumbers (writeReplyOf answer) (writeVerdict answer) (writeBytes answer)
+abbrev pub write_numbers : WriteAnswer → List ℕ
+write_numbers answer = told_numbers (write_reply_of answer) (write_verdict answer) (write_bytes answer)
 
-abbrev pub claimNumbers : ClaimAnswer → List ℕ
-claimNumbers answer = toldNumbers (claim.claimReplyOf answer) noVerdict 0
+abbrev pub claim_numbers : ClaimAnswer → List ℕ
+claim_numbers answer = told_numbers (claim.claim_reply_of answer) no_verdict 0

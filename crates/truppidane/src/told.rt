@@ -1,15 +1,15 @@
 // An answer as eleven numbers, for callers that have no enum.
 ghost use Rattle.std.specs.Prelude.{◌≡◌};
 ghost use Rattle.truppidane.specs.Told.{
-  toldNumbers,
-  noVerdict,
-  ofVerdict,
-  checkVerdict,
-  writeVerdict,
-  writeBytes,
-  checkNumbers,
-  writeNumbers,
-  claimNumbers,
+  told_numbers,
+  no_verdict,
+  of_verdict,
+  check_verdict,
+  write_verdict,
+  write_bytes,
+  check_numbers,
+  write_numbers,
+  claim_numbers,
 };
 
 use check_call::answer::{Answer, Reply, reply_of};
@@ -34,7 +34,7 @@ pub struct VerdictNumbers {
 
 // The verdict of an answer that has none.
 fn no_verdict() -> VerdictNumbers
-    ensures { result ≡ noVerdict }
+    ensures { result ≡ no_verdict }
 {
     VerdictNumbers {
         verdict: 0,
@@ -49,7 +49,7 @@ fn no_verdict() -> VerdictNumbers
 
 // A verdict as numbers.
 fn of_verdict(verdict: Verdict) -> VerdictNumbers
-    ensures { result ≡ ofVerdict verdict }
+    ensures { result ≡ of_verdict verdict }
 {
     match verdict {
         Verdict::Safe => VerdictNumbers {
@@ -82,7 +82,7 @@ fn of_verdict(verdict: Verdict) -> VerdictNumbers
 
 // The verdict of an answer of the check.
 fn check_verdict(answer: Answer) -> VerdictNumbers
-    ensures { result ≡ checkVerdict answer }
+    ensures { result ≡ check_verdict answer }
 {
     match answer {
         Answer::Done { count: _, verdict } => of_verdict(verdict),
@@ -94,7 +94,7 @@ fn check_verdict(answer: Answer) -> VerdictNumbers
 
 // The verdict of an answer of claim writing.
 fn write_verdict(answer: WriteAnswer) -> VerdictNumbers
-    ensures { result ≡ writeVerdict answer }
+    ensures { result ≡ write_verdict answer }
 {
     match answer {
         WriteAnswer::Written {
@@ -111,7 +111,7 @@ fn write_verdict(answer: WriteAnswer) -> VerdictNumbers
 
 // How many bytes an answer of claim writing says were written.
 fn write_bytes(answer: WriteAnswer) -> usize
-    ensures { result ≡ writeBytes answer }
+    ensures { result ≡ write_bytes answer }
 {
     match answer {
         WriteAnswer::Written {
@@ -128,7 +128,7 @@ fn write_bytes(answer: WriteAnswer) -> usize
 
 // The numbers of a reply, a verdict and the bytes written, in this order.
 fn numbers_of(reply: Reply, judged: VerdictNumbers, bytes: usize) -> [usize; NUMBERS]
-    ensures { result ≡ toldNumbers reply judged bytes }
+    ensures { result ≡ told_numbers reply judged bytes }
 {
     let number = reply.number as usize;
     let origin = reply.origin as usize;
@@ -149,14 +149,14 @@ fn numbers_of(reply: Reply, judged: VerdictNumbers, bytes: usize) -> [usize; NUM
 
 // An answer of the check as numbers.
 pub fn check_numbers(answer: Answer) -> [usize; NUMBERS]
-    ensures { result ≡ checkNumbers answer }
+    ensures { result ≡ check_numbers answer }
 {
     numbers_of(reply_of(answer), check_verdict(answer), 0)
 }
 
 // An answer of claim writing as numbers.
 pub fn write_numbers(answer: WriteAnswer) -> [usize; NUMBERS]
-    ensures { result ≡ writeNumbers answer }
+    ensures { result ≡ write_numbers answer }
 {
     numbers_of(
         write_reply_of(answer),
@@ -167,7 +167,7 @@ pub fn write_numbers(answer: WriteAnswer) -> [usize; NUMBERS]
 
 // An answer of the claim check as numbers.
 pub fn claim_numbers(answer: ClaimAnswer) -> [usize; NUMBERS]
-    ensures { result ≡ claimNumbers answer }
+    ensures { result ≡ claim_numbers answer }
 {
     numbers_of(
         claim_check_call::answer::claim_reply_of(answer),

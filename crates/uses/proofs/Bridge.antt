@@ -10,9 +10,9 @@ use Rattle.model.specs.Positions.{Fits, pos}
 use Rattle.model.specs.Memory.{Marked}
 use Rattle.model.proofs.Positions.{Stands}
 use Rattle.store.specs.Marking.{Has}
-use Rattle.positions.specs.Plans.{pFrom, qFrom, gAt, plan_of}
-use Rattle.store.proofs.MarkLaws.{marked-has, has-marked}
-use Rattle.positions.proofs.PlanIsModel.{pos-g, pos-p-from, pos-q-from, pair_fits}
+use Rattle.positions.specs.Plans.{p_from, q_from, g_at, plan_of}
+use Rattle.store.proofs.MarkLaws.{marked_has, has_marked}
+use Rattle.positions.proofs.PlanIsModel.{pos_g, pos_p_from, pos_q_from, pair_fits}
 use Rattle.uses.specs.Uses.{Uses, Single, Either, Upto, Lacks}
 
 -- ---- from uses of the rules
@@ -22,19 +22,19 @@ pub record Used (A : ℕ → ℕ → ℕ → Type 0) (m : List ℕ) (y : ℕ) : 
   pub q : ℕ
   pub x : ℕ
   pub given : A q x y
-  pub has-q : Has m q
-  pub has-x : Has m x
+  pub has_q : Has m q
+  pub has_x : Has m x
 
 -- a use of set j of a sequence
-pub upto-at : {A : ℕ → Uses} {n q x y : ℕ} (j : ℕ) → j < n → A j q x y → Upto A n q x y
-upto-at j l u = record { k = j; lt = l; given = u }
+pub upto_at : {A : ℕ → Uses} {n q x y : ℕ} (j : ℕ) → j < n → A j q x y → Upto A n q x y
+upto_at j l u = record { k = j; lt = l; given = u }
 
 -- from one marked fact
 pub used-from : {T : Table} {A : Uses} {m : List ℕ} {y : ℕ} {f : Fact} → Marked T m f → A (pos T f) (pos T f) y → Used A m y
-used-from h u = record { q = _; x = _; given = u; has-q = marked-has h; has-x = marked-has h }
+used-from h u = record { q = _; x = _; given = u; has_q = marked_has h; has_x = marked_has h }
 
 pub used-to : {A B : Uses} {m : List ℕ} {y : ℕ} → ((q x : ℕ) → A q x y → B q x y) → Used A m y → Used B m y
-used-to f u = record { q = u.q; x = u.x; given = f _ _ u.given; has-q = u.has-q; has-x = u.has-x }
+used-to f u = record { q = u.q; x = u.x; given = f _ _ u.given; has_q = u.has_q; has_x = u.has_x }
 
 module _ {A B : Uses} {m : List ℕ} {y : ℕ} where
   pub used-inl : Used A m y → Used (Either A B) m y
@@ -45,7 +45,7 @@ module _ {A B : Uses} {m : List ℕ} {y : ℕ} where
 
 -- and there is no mark at y
 pub used-lacks : {A : Uses} {m : List ℕ} {y : ℕ} → Used A m y → ¬ Has m y → Lacks A m y
-used-lacks u not = record { q = u.q; x = u.x; given = u.given; has-q = u.has-q; has-x = u.has-x; not = not }
+used-lacks u not = record { q = u.q; x = u.x; given = u.given; has_q = u.has_q; has_x = u.has_x; not = not }
 
 -- ---- to uses of the rules
 
@@ -58,24 +58,24 @@ pub record Yielded (T : Table) (m : List ℕ) (y : ℕ) : Type 0 where
 
 module _ {T : Table} {m : List ℕ} where
   -- the fact that stands at a mark is marked
-  pub marked-at : {x x' : ℕ} {f : Fact} → Stands T x f → x' ≡ x → Has m x' → Marked T m f
-  marked-at s e h = has-marked _ s.fits (s.here ∙ sym e) h
+  pub marked_at : {x x' : ℕ} {f : Fact} → Stands T x f → x' ≡ x → Has m x' → Marked T m f
+  marked_at s e h = has_marked _ s.fits (s.here ∙ sym e) h
 
   -- the facts at x and y, of which the second follows by a rule from the first
-  pub one-yields : {x y q x' y' : ℕ} {f f' : Fact} → Stands T x f → Stands T y f' → (Marked T m f → Yields T (Marked T m) f')
+  pub one_yields : {x y q x' y' : ℕ} {f f' : Fact} → Stands T x f → Stands T y f' → (Marked T m f → Yields T (Marked T m) f')
       → Single x y q x' y' → Has m x' → Yielded T m y'
-  one-yields s s' rule u h =
-      record { f = _; fits = s'.fits; here = s'.here ∙ sym u.2; yields = rule (marked-at s u.1 h) }
+  one_yields s s' rule u h =
+      record { f = _; fits = s'.fits; here = s'.here ∙ sym u.2; yields = rule (marked_at s u.1 h) }
 
 -- the places of facts: G facts, and those from pair a, in their stretch
-pub g-stands : {T : Table} {t g g' : ℕ} → t < T.n → g < T.G → g' < T.G → Stands T (gAt (plan_of T) t g g') (G t g g')
-g-stands {T} t g g' = record { fits = (t, g, g'); here = pos-g T _ _ _ }
+pub g_stands : {T : Table} {t g g' : ℕ} → t < T.n → g < T.G → g' < T.G → Stands T (g_at (plan_of T) t g g') (G t g g')
+g_stands {T} t g g' = record { fits = (t, g, g'); here = pos_g T _ _ _ }
 
 module _ {T : Table} (sound : Sound T) where
-  pub p-stands : {t a g l : ℕ} → t < T.n → a < T.G * T.L → g < T.G → l < T.L
-      → Stands T (pFrom (plan_of T) t a + (g * T.L + l)) (P t (a / T.L) (a % T.L) g l)
-  p-stands t a g l = let p = pair_fits T sound a in record { fits = (t, p.0, p.1, g, l); here = pos-p-from T _ _ _ _ }
+  pub p_stands : {t a g l : ℕ} → t < T.n → a < T.G * T.L → g < T.G → l < T.L
+      → Stands T (p_from (plan_of T) t a + (g * T.L + l)) (P t (a / T.L) (a % T.L) g l)
+  p_stands t a g l = let p = pair_fits T sound a in record { fits = (t, p.0, p.1, g, l); here = pos_p_from T _ _ _ _ }
 
-  pub q-stands : {t a f g l : ℕ} → t < T.n → a < T.G * T.L → f < T.F → g < T.G → l < T.L
-      → Stands T (qFrom (plan_of T) t a + f * (T.G * T.L) + (g * T.L + l)) (Q t (a / T.L) (a % T.L) f g l)
-  q-stands t a f g l = let p = pair_fits T sound a in record { fits = (t, p.0, p.1, f, g, l); here = pos-q-from T _ _ _ _ _ }
+  pub q_stands : {t a f g l : ℕ} → t < T.n → a < T.G * T.L → f < T.F → g < T.G → l < T.L
+      → Stands T (q_from (plan_of T) t a + f * (T.G * T.L) + (g * T.L + l)) (Q t (a / T.L) (a % T.L) f g l)
+  q_stands t a f g l = let p = pair_fits T sound a in record { fits = (t, p.0, p.1, f, g, l); here = pos_q_from T _ _ _ _ _ }

@@ -12,11 +12,11 @@ use Rattle.model.specs.Memory.{Marked}
 use Rattle.model.proofs.Positions.{Stands}
 use Rattle.store.specs.Marking.{Has}
 use Rattle.positions.specs.Plans.{plan_of}
-use Rattle.store.proofs.MarkLaws.{marked-has}
-use Rattle.positions.proofs.PlanIsModel.{pos-g}
+use Rattle.store.proofs.MarkLaws.{marked_has}
+use Rattle.positions.proofs.PlanIsModel.{pos_g}
 use Rattle.uses.specs.Uses.{Uses, Upto}
 use Rattle.uses.specs.RuleUses.{MovedFrom}
-use Rattle.uses.proofs.Bridge.{Used, upto-at, Yielded, marked-at, one-yields, g-stands}
+use Rattle.uses.proofs.Bridge.{Used, upto_at, Yielded, marked_at, one_yields, g_stands}
 
 -- the uses on the stretch from x on
 abbrev Moved : Table → ℕ → ℕ → Uses
@@ -24,19 +24,19 @@ Moved T t x = Upto (MovedFrom (plan_of T) t x) T.G
 
 -- ---- from uses of the rules
 
-pub moved-used : {T : Table} {m : List ℕ} {t e g g' l : ℕ} (x : ℕ) (fact : ℕ → ℕ → Fact)
+pub moved_used : {T : Table} {m : List ℕ} {t e g g' l : ℕ} (x : ℕ) (fact : ℕ → ℕ → Fact)
     → ((g l : ℕ) → pos T (fact g l) ≡ x + (g * T.L + l)) → l < T.L → Marked T m (fact g l) → Marked T m (G e g g') → e ≢ t
     → Used (Moved T t x) m (pos T (fact g' l))
-moved-used {T} {e = e} {g} {g'} {l} x fact place lh h guarantee other =
+moved_used {T} {e = e} {g} {g'} {l} x fact place lh h guarantee other =
     let (eh, gh, gh') = guarantee.fits in
     let from : pos T (fact g l) ≡ x + g * T.L + l = place g l ∙ omega arith in
     let to : pos T (fact g' l) ≡ x + g' * T.L + l = place g' l ∙ omega arith in
     record {
       q = _;
       x = _;
-      given = upto-at g gh (upto-at g' gh' (upto-at e eh (pos-g T e g g', (other, upto-at l lh (from, from, to)))));
-      has-q = marked-has guarantee;
-      has-x = marked-has h;
+      given = upto_at g gh (upto_at g' gh' (upto_at e eh (pos_g T e g g', (other, upto_at l lh (from, from, to)))));
+      has_q = marked_has guarantee;
+      has_x = marked_has h;
     }
 
 -- ---- to uses of the rules
@@ -49,8 +49,8 @@ moved_yields {T} x fact stands rule u hq hx =
     let to = u.given in
     let by = to.given in
     let (e, (other, v)) = by.given in
-    one-yields (ends u.lt v.lt) (ends to.lt v.lt)
-    (λ h. rule _ _ _ _ h (marked-at (g-stands by.lt u.lt to.lt) e hq) other) v.given hx
+    one_yields (ends u.lt v.lt) (ends to.lt v.lt)
+    (λ h. rule _ _ _ _ h (marked_at (g_stands by.lt u.lt to.lt) e hq) other) v.given hx
   where
     ends : {g l : ℕ} → g < T.G → l < T.L → Stands T (x + g * T.L + l) (fact g l)
     ends gh lh = let w = stands _ _ gh lh in record { fits = w.fits; here = w.here ∙ omega arith }

@@ -6,48 +6,48 @@ use native.Mathlib.Nat.{mod-lt, mul-le-mul, div-lt_iff_lt-mul, div-add-mod'}
 use native.Mathlib.Omega.{arith}
 use lib.Arith.{digits_lt, digits_div, digits_mod}
 use Rattle.positions.specs.declared.plan.Plan.{Plan}
-use Rattle.positions.specs.Plans.{Planned, pFrom, qFrom}
-use Rattle.positions.proofs.Places.{p-stretch, q-stretches}
+use Rattle.positions.specs.Plans.{Planned, p_from, q_from}
+use Rattle.positions.proofs.Places.{p_stretch, q_stretches}
 use Rattle.uses.specs.Uses.{Uses, Upto}
 
 module _ {s : Plan} (h : Planned s) where
   -- there is a stretch
-  pub k-pos : 0 < s.k
-  k-pos = omega (arith, mul-le-mul {n₁ = 1} {m₁ = 1} h.g-pos h.l-pos, h.k)
+  pub k_pos : 0 < s.k
+  k_pos = omega (arith, mul-le-mul {n₁ = 1} {m₁ = 1} h.g_pos h.l_pos, h.k)
 
-  pub stretches-pos : 0 < s.n * s.k
-  stretches-pos = omega (arith, mul-le-mul {n₁ = 1} {m₁ = 1} h.n_pos k-pos)
+  pub stretches_pos : 0 < s.n * s.k
+  stretches_pos = omega (arith, mul-le-mul {n₁ = 1} {m₁ = 1} h.n_pos k_pos)
 
   -- the stretches of P facts are at most 1024
-  pub stretches-small : s.n * s.k ≤ 1024
-  stretches-small = mul-le-mul {n₂ = 4} {m₂ = 256} h.n-max h.k-max
+  pub stretches_small : s.n * s.k ≤ 1024
+  stretches_small = mul-le-mul {n₂ = 4} {m₂ = 256} h.n_max h.k_max
 
   pub frames_small : s.f * s.k ≤ 2048
-  frames_small = mul-le-mul {n₂ = 8} {m₂ = 256} h.f-max h.k-max
+  frames_small = mul-le-mul {n₂ = 8} {m₂ = 256} h.f_max h.k_max
 
   module _ {i : ℕ} (l : i < s.n * s.k) where
-    pub stretch-thread : i / s.k < s.n
-    stretch-thread = (div-lt_iff_lt-mul k-pos).1 l
+    pub stretch_thread : i / s.k < s.n
+    stretch_thread = (div-lt_iff_lt-mul k_pos).1 l
 
-    pub stretch-pair : i % s.k < s.k
-    stretch-pair = mod-lt i k-pos
+    pub stretch_pair : i % s.k < s.k
+    stretch_pair = mod-lt i k_pos
 
     -- where the stretch of P facts begins, and where the stretches of Q facts do
-    pub p-begins : pFrom s (i / s.k) (i % s.k) ≡ s.p + i * s.k
-    p-begins = ap (λ j. s.p + j * s.k) (div-add-mod' i s.k)
+    pub p_begins : p_from s (i / s.k) (i % s.k) ≡ s.p + i * s.k
+    p_begins = ap (λ j. s.p + j * s.k) (div-add-mod' i s.k)
 
-    pub q-begins : qFrom s (i / s.k) (i % s.k) ≡ s.q + i * (s.f * s.k)
-    q-begins = ap (λ j. s.q + j * (s.f * s.k)) (div-add-mod' i s.k)
+    pub q_begins : q_from s (i / s.k) (i % s.k) ≡ s.q + i * (s.f * s.k)
+    q_begins = ap (λ j. s.q + j * (s.f * s.k)) (div-add-mod' i s.k)
 
-    pub p-room : s.p + i * s.k + s.k ≤ s.q
-    p-room = omega (arith, p-begins, p-stretch h stretch-thread stretch-pair)
+    pub p_room : s.p + i * s.k + s.k ≤ s.q
+    p_room = omega (arith, p_begins, p_stretch h stretch_thread stretch_pair)
 
     pub q_room : s.q + i * (s.f * s.k) + s.f * s.k ≤ s.w
-    q_room = omega (arith, q-begins, q-stretches h stretch-thread stretch-pair)
+    q_room = omega (arith, q_begins, q_stretches h stretch_thread stretch_pair)
 
 -- a use on the facts of t from pair a
-pub stretch-of : (A : ℕ → ℕ → Uses) {n k t a q x y : ℕ} → t < n → a < k → A t a q x y → Upto (λ i. A (i / k) (i % k)) (n * k) q x y
-stretch-of A {n} {k} {t} {a} {q} {x} {y} th ah u =
+pub stretch_of : (A : ℕ → ℕ → Uses) {n k t a q x y : ℕ} → t < n → a < k → A t a q x y → Upto (λ i. A (i / k) (i % k)) (n * k) q x y
+stretch_of A {n} {k} {t} {a} {q} {x} {y} th ah u =
     record {
       k = t * k + a;
       lt = digits_lt th ah;

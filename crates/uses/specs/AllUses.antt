@@ -3,7 +3,7 @@
 use Rattle.std.specs.Prelude.{List, ℕ, ◌+◌, ◌*◌, ◌/◌, ◌%◌}
 use Rattle.positions.specs.declared.plan.Plan.{Plan}
 use Rattle.store.specs.declared.rows.RowCounts.{RowCounts}
-use Rattle.positions.specs.Plans.{pFrom, qFrom}
+use Rattle.positions.specs.Plans.{p_from, q_from}
 use Rattle.store.specs.Reading.{row_of}
 use Rattle.uses.specs.declared.kinds.Kind.TheVariants.{Push, Pop}
 use Rattle.uses.specs.Uses.{Uses, Either, Upto}
@@ -11,7 +11,7 @@ use Rattle.uses.specs.RuleUses.{StepUses, RowUses, CallUse, MovedFrom}
 
 -- on the P facts of t from pair a: rules 5 and 2
 abbrev pub RestUses : Plan → RowCounts → List ℕ → ℕ → ℕ → Uses
-RestUses s n pushes t a = Either (RowUses Push s t a pushes n.pushes) (Upto (MovedFrom s t (pFrom s t a)) s.g)
+RestUses s n pushes t a = Either (RowUses Push s t a pushes n.pushes) (Upto (MovedFrom s t (p_from s t a)) s.g)
 
 -- rule 4 too
 abbrev pub PUses : Plan → RowCounts → List ℕ → List ℕ → ℕ → ℕ → Uses
@@ -19,7 +19,7 @@ PUses s n steps pushes t a = Either (StepUses s t a (row_of steps) n.steps) (Res
 
 -- on the Q facts of t from pair a with frame f: rules 6 and 3
 abbrev pub FrameUses : Plan → ℕ → ℕ → ℕ → Uses
-FrameUses s t a f = Either (Upto (CallUse s t (qFrom s t a + f * s.k)) s.k) (Upto (MovedFrom s t (qFrom s t a + f * s.k)) s.g)
+FrameUses s t a f = Either (Upto (CallUse s t (q_from s t a + f * s.k)) s.k) (Upto (MovedFrom s t (q_from s t a + f * s.k)) s.g)
 
 -- on the Q facts of t from pair a: these for each frame, and rule 7
 abbrev pub QUses : Plan → RowCounts → List ℕ → ℕ → ℕ → Uses

@@ -3,7 +3,7 @@
 use Rattle.std.specs.Prelude.{◌≡◌, List, ℕ, ◌+◌, ◌*◌}
 use Rattle.positions.specs.declared.plan.Plan.{Plan}
 use Rattle.store.specs.declared.rows.Row.{Row}
-use Rattle.positions.specs.Plans.{pair, pFrom, qFrom, gAt}
+use Rattle.positions.specs.Plans.{pair, p_from, q_from, g_at}
 use Rattle.store.specs.Reading.{row_of}
 use Rattle.uses.specs.declared.kinds.Kind.{Kind}
 use Rattle.uses.specs.declared.kinds.Kind.TheVariants.{Push, Pop}
@@ -14,23 +14,23 @@ use Rattle.uses.specs.Uses.{Uses, Single, Either, Upto, With, Under, Line}
 
 -- where the P fact to the place of a row stands
 abbrev pub place_of : Plan → ℕ → ℕ → Row → ℕ
-place_of s t a r = pFrom s t a + pair s r.g r.l
+place_of s t a r = p_from s t a + pair s r.g r.l
 
 -- rule 4: the P fact that ends at the row's place gives a P fact and a G fact
 abbrev pub StepUse : Plan → ℕ → ℕ → Row → Uses
 StepUse s t a r =
-    Either (Single (place_of s t a r) (pFrom s t a + pair s r.u r.v))
-    (Single (place_of s t a r) (gAt s t r.g r.u))
+    Either (Single (place_of s t a r) (p_from s t a + pair s r.u r.v))
+    (Single (place_of s t a r) (g_at s t r.g r.u))
 
 -- rule 5: it gives a Q fact, and the P fact of the callee's start
 abbrev pub PushUse : Plan → ℕ → ℕ → Row → Uses
 PushUse s t a r =
-    Either (Single (place_of s t a r) (qFrom s t a + r.v * s.k + pair s r.g r.u))
-    (Single (place_of s t a r) (pFrom s t (pair s r.g r.u) + pair s r.g r.u))
+    Either (Single (place_of s t a r) (q_from s t a + r.v * s.k + pair s r.g r.u))
+    (Single (place_of s t a r) (p_from s t (pair s r.g r.u) + pair s r.g r.u))
 
 -- rule 7: the Q fact with the row's frame that ends at its place gives a P fact
 abbrev pub PopUse : Plan → ℕ → ℕ → Row → Uses
-PopUse s t a r = Single (qFrom s t a + r.u * s.k + pair s r.g r.l) (pFrom s t a + pair s r.g r.v)
+PopUse s t a r = Single (q_from s t a + r.u * s.k + pair s r.g r.l) (p_from s t a + pair s r.g r.v)
 
 -- ---- rows
 
@@ -50,16 +50,16 @@ abbrev pub StepUses : Plan → ℕ → ℕ → (ℕ → Row) → ℕ → Uses
 StepUses s t a = OfRows t (StepUse s t a)
 
 -- rules 5 and 7: the bounds of a row's last two numbers, by its kind
-abbrev pub uMost : Kind → Plan → ℕ
-uMost Push s = s.l
-uMost Pop s = s.f
+abbrev pub u_most : Kind → Plan → ℕ
+u_most Push s = s.l
+u_most Pop s = s.f
 
-abbrev pub vMost : Kind → Plan → ℕ
-vMost Push s = s.f
-vMost Pop s = s.l
+abbrev pub v_most : Kind → Plan → ℕ
+v_most Push s = s.f
+v_most Pop s = s.l
 
 abbrev pub KindIn : Kind → Plan → Row → Type 0
-KindIn kind s r = RowIn s (uMost kind s) (vMost kind s) r
+KindIn kind s r = RowIn s (u_most kind s) (v_most kind s) r
 
 abbrev pub KindUse : Kind → Plan → ℕ → ℕ → Row → Uses
 KindUse Push s t a r = PushUse s t a r
@@ -76,13 +76,13 @@ RowUses kind s t a rows n = OfRows t (KindUse kind s t a) (row_of rows) n
 
 -- the Q fact to pair b in the stretch of Q facts from y on, with the P facts from b
 abbrev pub CallUse : Plan → ℕ → ℕ → ℕ → Uses
-CallUse s t y b = With (y + b) (Upto (Line (pFrom s t b) y) s.k)
+CallUse s t y b = With (y + b) (Upto (Line (p_from s t b) y) s.k)
 
 -- ---- rules 2 and 3
 
 -- the G fact of e from g to g', and the stretch of facts of t from x on, if the guarantee is another thread's
 abbrev pub MovedUse : Plan → ℕ → ℕ → ℕ → ℕ → ℕ → Uses
-MovedUse s t x g g' e = With (gAt s e g g') (Under (e ≡ t → ⊥) (Upto (Line (x + g * s.l) (x + g' * s.l)) s.l))
+MovedUse s t x g g' e = With (g_at s e g g') (Under (e ≡ t → ⊥) (Upto (Line (x + g * s.l) (x + g' * s.l)) s.l))
 
 -- those of each thread, from g to g'
 abbrev pub MovedTo : Plan → ℕ → ℕ → ℕ → ℕ → Uses

@@ -36,6 +36,6 @@ pub record Lacks (U : ℕ → ℕ → ℕ → Type 0) (m : List ℕ) (y : ℕ) :
   pub q : ℕ
   pub x : ℕ
   pub given : U q x y
-  pub has-q : Has m q
-  pub has-x : Has m x
+  pub has_q : Has m q
+  pub has_x : Has m x
   pub not : ¬ Has m y

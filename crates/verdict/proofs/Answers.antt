@@ -19,11 +19,11 @@ use Rattle.model.specs.Verdict.{safe, possible}
 use Rattle.model.specs.Positions.{Fits}
 use Rattle.model.specs.Memory.{Holds, Relations}
 use Rattle.model.specs.Claims.{First, AllowsRow}
-use Rattle.model.proofs.Monotone.{verdict-cast}
-use Rattle.model.proofs.InRange.{derives-fits}
-use Rattle.model.proofs.Memory.{marked-in, in-marked}
-use Rattle.model.proofs.Unique.{verdict-same}
-use Rattle.model.proofs.Claims.{witness-row}
+use Rattle.model.proofs.Monotone.{verdict_cast}
+use Rattle.model.proofs.InRange.{derives_fits}
+use Rattle.model.proofs.Memory.{marked_in, in_marked}
+use Rattle.model.proofs.Unique.{verdict_same}
+use Rattle.model.proofs.Claims.{witness_row}
 use Rattle.verdict.specs.declared.search.Verdict.{Verdict}
 use Rattle.verdict.specs.declared.search.Verdict.TheVariants.{Safe, Possible}
 use Rattle.verdict.specs.Judged.{shown, Padded, Answers}
@@ -34,9 +34,9 @@ use Rattle.verdict.proofs.search.judge.Kinds as judge-kinds
 -- ---- the only answer
 
 -- two lists with the same first n numbers, and 0 after these
-padded-same : (n : ℕ) (xs ys : List ℕ) → take n xs ≡ take n ys → ((t : ℕ) → n ≤ t → get_or xs t 0 ≡ 0) → ((t : ℕ) → n ≤ t → get_or ys t 0 ≡ 0)
+padded_same : (n : ℕ) (xs ys : List ℕ) → take n xs ≡ take n ys → ((t : ℕ) → n ≤ t → get_or xs t 0 ≡ 0) → ((t : ℕ) → n ≤ t → get_or ys t 0 ≡ 0)
     → (t : ℕ) → get_or xs t 0 ≡ get_or ys t 0
-padded-same n xs ys e p q t = go (dec_lt t n)
+padded_same n xs ys e p q t = go (dec_lt t n)
   where
     go : Dec (t < n) → get_or xs t 0 ≡ get_or ys t 0
     go (yes l) = sym (get_or-take n xs t 0 l) ∙ ap (λ (zs : List ℕ). get_or zs t 0) e ∙ get_or-take n ys t 0 l
@@ -45,40 +45,40 @@ padded-same n xs ys e p q t = go (dec_lt t n)
 some_inj : {w v : Witness} → some w ≡ some v → w ≡ v
 some_inj e = cc
 
-shown-same : (n : ℕ) (r r' : Verdict) → shown n r ≡ shown n r' → Padded n r → Padded n r' → r ≡ r'
-shown-same n Safe Safe e p q = refl
-shown-same n Safe (Possible row g l0 l1 l2 l3) e p q = let z : ◌≡◌ {A = ℕ} 0 1 = cc in absurd (omega arith)
-shown-same n (Possible row g l0 l1 l2 l3) Safe e p q = let z : ◌≡◌ {A = ℕ} 0 1 = cc in absurd (omega arith)
-shown-same n (Possible row g l0 l1 l2 l3) (Possible row' g' l0' l1' l2' l3') e p q =
+shown_same : (n : ℕ) (r r' : Verdict) → shown n r ≡ shown n r' → Padded n r → Padded n r' → r ≡ r'
+shown_same n Safe Safe e p q = refl
+shown_same n Safe (Possible row g l0 l1 l2 l3) e p q = let z : ◌≡◌ {A = ℕ} 0 1 = cc in absurd (omega arith)
+shown_same n (Possible row g l0 l1 l2 l3) Safe e p q = let z : ◌≡◌ {A = ℕ} 0 1 = cc in absurd (omega arith)
+shown_same n (Possible row g l0 l1 l2 l3) (Possible row' g' l0' l1' l2' l3') e p q =
     let w = some_inj e in
-    let at = padded-same n (l0 ∷ l1 ∷ l2 ∷ l3 ∷ []) (l0' ∷ l1' ∷ l2' ∷ l3' ∷ []) (ap (λ (w : Witness). w.locals) w) p q in
+    let at = padded_same n (l0 ∷ l1 ∷ l2 ∷ l3 ∷ []) (l0' ∷ l1' ∷ l2' ∷ l3' ∷ []) (ap (λ (w : Witness). w.locals) w) p q in
     λ i. Possible (w i).row (w i).shared (at 0 i) (at 1 i) (at 2 i) (at 3 i)
 
 module _ {T : Table} where
-  pub answers-same : {S : Fact → Type 0} {r r' : Verdict} → Answers T S r → Answers T S r' → r ≡ r'
-  answers-same {r} {r'} a b = shown-same T.n r r' (verdict-same a.verdict b.verdict) a.padded b.padded
+  pub answers_same : {S : Fact → Type 0} {r r' : Verdict} → Answers T S r → Answers T S r' → r ≡ r'
+  answers_same {r} {r'} a b = shown_same T.n r r' (verdict_same a.verdict b.verdict) a.padded b.padded
 
   -- ---- the verdict on the facts that a memory holds
 
-  pub judged-held : {S : Fact → Type 0} {mem : List ℕ} {r : Verdict} → Holds T S mem → ((f : Fact) → S f → Fits T f)
+  pub judged_held : {S : Fact → Type 0} {mem : List ℕ} {r : Verdict} → Holds T S mem → ((f : Fact) → S f → Fits T f)
       → Judged T mem r → Answers T S r
-  judged-held h fits j =
-      record { verdict = verdict-cast (marked-in h) (λ f a. in-marked h f (fits f a) a) j.verdict; padded = j.padded }
+  judged_held h fits j =
+      record { verdict = verdict_cast (marked_in h) (λ f a. in_marked h f (fits f a) a) j.verdict; padded = j.padded }
 
-  pub judged-least : {mem : List ℕ} {r : Verdict} → Sound T → Relations T mem → Judged T mem r → Answers T (Derives T) r
-  judged-least sound h = judged-held h (derives-fits sound)
+  pub judged_least : {mem : List ℕ} {r : Verdict} → Sound T → Relations T mem → Judged T mem r → Answers T (Derives T) r
+  judged_least sound h = judged_held h (derives_fits sound)
 
   -- ---- the smallest row of an allowed error
 
   module _ {S : Fact → Type 0} where
-    pub possible-row : {row g l0 l1 l2 l3 : ℕ} → Answers T S (Possible row g l0 l1 l2 l3) → First (AllowsRow T S) row
-    possible-row a = elim a.verdict [ possible w ↦ witness-row w ]
+    pub possible_row : {row g l0 l1 l2 l3 : ℕ} → Answers T S (Possible row g l0 l1 l2 l3) → First (AllowsRow T S) row
+    possible_row a = elim a.verdict [ possible w ↦ witness_row w ]
 
-    pub safe-none : Answers T S Safe → model.Safe T S
-    safe-none a = elim a.verdict [ safe s ↦ s ]
+    pub safe_none : Answers T S Safe → model.Safe T S
+    safe_none a = elim a.verdict [ safe s ↦ s ]
 
 -- ---- the contract as the prover reads it from the source
 
-pub judge-fixes : (κs : Lfts 2) (a : Dens κs judge-kinds.ps) (x x' : Verdict) (s s' : AtExit (ended_of 2 judge-kinds.ps judge-kinds.r) κs)
+pub judge_fixes : (κs : Lfts 2) (a : Dens κs judge-kinds.ps) (x x' : Verdict) (s s' : AtExit (ended_of 2 judge-kinds.ps judge-kinds.r) κs)
     → judge.Pre κs a → judge.Post κs a x s → judge.Post κs a x' s' → x ≡ x'
-judge-fixes κs a x x' s s' ((T, of), _, _) p q = answers-same (p T of) (q T of)
+judge_fixes κs a x x' s s' ((T, of), _, _) p q = answers_same (p T of) (q T of)

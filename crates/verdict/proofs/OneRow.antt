@@ -22,24 +22,24 @@ use Rattle.reaching.specs.Reaching.{
   already,
   forced,
   Aimed,
-  no-failed,
+  no_failed,
   picked,
   unfit,
   fit,
-  askedCell,
+  asked_cell,
 }
-use Rattle.reaching.proofs.Numbers.{picked-reaches, picked_none}
-use Rattle.reaching.proofs.CellLaws.{cell-eq, own-cell, other-cell, file-cell}
-use Rattle.verdict.proofs.Smallest.{each-least, own-fails, fails-least}
+use Rattle.reaching.proofs.Numbers.{picked_reaches, picked_none}
+use Rattle.reaching.proofs.CellLaws.{cell_eq, own_cell, other_cell, file_cell}
+use Rattle.verdict.proofs.Smallest.{each_least, own_fails, fails_least}
 use Rattle.verdict.proofs.LentIsTable.{
   EachReaches,
-  some-thread,
-  from-row-0,
-  to-row-0,
-  from-file-row,
-  to-file-row,
-  allows-reached,
-  reached-allows,
+  some_thread,
+  from_row_0,
+  to_row_0,
+  from_file_row,
+  to_file_row,
+  allows_reached,
+  reached_allows,
 }
 
 -- the marks allow an error by the row at g, ls
@@ -52,90 +52,90 @@ NoneAt T m row g = (ls : List ℕ) → ¬ Allowed T m row g ls
 
 -- the stores for the cell of thread t: it reaches them at g, and the cell fits them
 abbrev pub StoreFor : Plan → ℕ → List ℕ → List ℕ → ℕ → ℕ → ℕ → ℕ → ℕ → Type 0
-StoreFor s failed rows m row g u t = Choice (Reached s m g t) (askedCell failed rows row u t)
+StoreFor s failed rows m row g u t = Choice (Reached s m g t) (asked_cell failed rows row u t)
 
 -- the row is aimed at a thread, u
 pub record AimedAt (s : Plan) (failed : ℕ) (rows : List ℕ) (n : ℕ) (m : List ℕ) (row g u : ℕ) : Type 0 where
-  pub row-le : row ≤ n
-  pub g-lt : g < s.g
-  pub u-lt : u < s.n
+  pub row_le : row ≤ n
+  pub g_lt : g < s.g
+  pub u_lt : u < s.n
   pub aimed : Aimed s failed rows m row g u
 
-pub aimed-lt : {s : Plan} {failed : ℕ} {rows m : List ℕ} {row g u : ℕ} → 0 < s.n → Aimed s failed rows m row g u → ¬ (u ≡ s.n) → u < s.n
-aimed-lt p (no-failed z e q) ne = absurd (ne q)
-aimed-lt p (picked k z fk (already l f none)) ne = l
-aimed-lt p (picked k z fk (forced x (here l a h))) ne = l
-aimed-lt p (picked k z fk (forced x (nowhere e h))) ne = absurd (ne e)
-aimed-lt p (unfit i z c q) ne = absurd (ne q)
-aimed-lt p (fit i z c q) ne = omega arith
+pub aimed_lt : {s : Plan} {failed : ℕ} {rows m : List ℕ} {row g u : ℕ} → 0 < s.n → Aimed s failed rows m row g u → ¬ (u ≡ s.n) → u < s.n
+aimed_lt p (no_failed z e q) ne = absurd (ne q)
+aimed_lt p (picked k z fk (already l f none)) ne = l
+aimed_lt p (picked k z fk (forced x (here l a h))) ne = l
+aimed_lt p (picked k z fk (forced x (nowhere e h))) ne = absurd (ne e)
+aimed_lt p (unfit i z c q) ne = absurd (ne q)
+aimed_lt p (fit i z c q) ne = omega arith
 
 module _ {T : Table} {s : Plan} {failed : ℕ} {rows : List ℕ} {n : ℕ} (of : ErrorsOf T s failed rows n) {m : List ℕ} {row g : ℕ} where
   -- what an allowed list has: for row 0 a thread that reaches the failed store k, and for a row of the file a store for each cell
-  fails-reached : {k : ℕ} → row ≡ 0 → failed ≡ suc k → (ls : List ℕ) → Allowed T m row g ls
+  fails_reached : {k : ℕ} → row ≡ 0 → failed ≡ suc k → (ls : List ℕ) → Allowed T m row g ls
       → (t : ℕ) × (t < s.n) × (get_or ls t 0 ≡ k) × Reached s m g t k
-  fails-reached {k} z fk ls a =
-      let f = from-row-0 of a.erroneous z in
+  fails_reached {k} z fk ls a =
+      let f = from_row_0 of a.erroneous z in
       let e : get_or ls f.t 0 ≡ k = omega (arith, f.here, fk) in
-      (f.t, f.t-lt, e, rw e at ((allows-reached of a).reached f.t f.t-lt))
+      (f.t, f.t_lt, e, rw e at ((allows_reached of a).reached f.t f.t_lt))
 
-  file-stores : {i : ℕ} (u : ℕ) → row ≡ suc i → (ls : List ℕ) → Allowed T m row g ls
+  file_stores : {i : ℕ} (u : ℕ) → row ≡ suc i → (ls : List ℕ) → Allowed T m row g ls
       → (t : ℕ) → t < s.n → StoreFor s failed rows m row g u t (get_or ls t 0)
-  file-stores u z ls a t l =
+  file_stores u z ls a t l =
       record {
-        fits = cell-eq (file-cell failed rows u t z) ((from-file-row of a.erroneous z).locals t l);
-        reached = (allows-reached of a).reached t l;
+        fits = cell_eq (file_cell failed rows u t z) ((from_file_row of a.erroneous z).locals t l);
+        reached = (allows_reached of a).reached t l;
       }
 
-  pub unaimed-none : {u : ℕ} → Aimed s failed rows m row g u → u ≡ s.n → NoneAt T m row g
-  unaimed-none (no-failed z e q) uq ls a = omega (arith, (from-row-0 of a.erroneous z).here)
-  unaimed-none (picked k z fk p) uq ls a = let (t, tl, e, r) = fails-reached z fk ls a in picked_none p uq t tl r
-  unaimed-none (unfit i z c q) uq ls a = c (from-file-row of a.erroneous z).shared
-  unaimed-none (fit i z c q) uq ls a = omega (arith, some-thread of)
+  pub unaimed_none : {u : ℕ} → Aimed s failed rows m row g u → u ≡ s.n → NoneAt T m row g
+  unaimed_none (no_failed z e q) uq ls a = omega (arith, (from_row_0 of a.erroneous z).here)
+  unaimed_none (picked k z fk p) uq ls a = let (t, tl, e, r) = fails_reached z fk ls a in picked_none p uq t tl r
+  unaimed_none (unfit i z c q) uq ls a = c (from_file_row of a.erroneous z).shared
+  unaimed_none (fit i z c q) uq ls a = omega (arith, some_thread of)
 
   module _ {u : ℕ} (at : AimedAt s failed rows n m row g u) where
     ul : u < s.n
-    ul = at.u-lt
+    ul = at.u_lt
 
     -- thread t has no store for its cell
-    pub stuck-none : (t : ℕ) → t < s.n → ((l : ℕ) → ¬ StoreFor s failed rows m row g u t l) → NoneAt T m row g
-    stuck-none t tl none ls a = go at.aimed (ℕ_discrete t u)
+    pub stuck_none : (t : ℕ) → t < s.n → ((l : ℕ) → ¬ StoreFor s failed rows m row g u t l) → NoneAt T m row g
+    stuck_none t tl none ls a = go at.aimed (ℕ_discrete t u)
       where
         go : Aimed s failed rows m row g u → Dec (t ≡ u) → ⊥
-        go (no-failed z e q) d = omega (arith, ul)
-        go (picked k z fk p) (yes e) = none k (record { fits = inr (own-cell failed rows z e ∙ fk); reached = rw e (picked-reaches p ul) })
+        go (no_failed z e q) d = omega (arith, ul)
+        go (picked k z fk p) (yes e) = none k (record { fits = inr (own_cell failed rows z e ∙ fk); reached = rw e (picked_reaches p ul) })
         go (picked k z fk p) (no ne) =
-            none (get_or ls t 0) (record { fits = inl (other-cell failed rows z ne); reached = (allows-reached of a).reached t tl })
+            none (get_or ls t 0) (record { fits = inl (other_cell failed rows z ne); reached = (allows_reached of a).reached t tl })
         go (unfit i z c q) d = omega (arith, ul)
-        go (fit i z c q) d = none (get_or ls t 0) (file-stores u z ls a t tl)
+        go (fit i z c q) d = none (get_or ls t 0) (file_stores u z ls a t tl)
 
     -- each thread is in its smallest
     module _ (ls : List ℕ) (count : length ls ≡ s.n) (all : (t : ℕ) → t < s.n → First (StoreFor s failed rows m row g u t) (get_or ls t 0)) where
       erroneous : Aimed s failed rows m row g u → Erroneous T g ls row
-      erroneous (no-failed z e q) = absurd (omega (arith, ul))
+      erroneous (no_failed z e q) = absurd (omega (arith, ul))
       erroneous (picked k z fk p) =
-          let e = own-fails (askedCell failed rows row u) ls count all (own-cell failed rows z refl ∙ fk) (λ t. other-cell failed rows z) ul in
-          rw z (to-row-0 of (record { t = u; t-lt = ul; here = fk ∙ ap suc (sym e) }))
+          let e = own_fails (asked_cell failed rows row u) ls count all (own_cell failed rows z refl ∙ fk) (λ t. other_cell failed rows z) ul in
+          rw z (to_row_0 of (record { t = u; t_lt = ul; here = fk ∙ ap suc (sym e) }))
       erroneous (unfit i z c q) = absurd (omega (arith, ul))
       erroneous (fit i z c q) =
           rw z
-          (to-file-row of (omega (arith, at.row-le))
-          (record { shared = c; locals = λ t l. cell-eq (sym (file-cell failed rows u t z)) (all t l).here.fits }))
+          (to_file_row of (omega (arith, at.row_le))
+          (record { shared = c; locals = λ t l. cell_eq (sym (file_cell failed rows u t z)) (all t l).here.fits }))
 
-      pub smallest-allowed : Allowed T m row g ls
-      smallest-allowed =
-          reached-allows of (record { count = count; shared = at.g-lt; reached = λ t l. (all t l).here.reached }) (erroneous at.aimed)
+      pub smallest_allowed : Allowed T m row g ls
+      smallest_allowed =
+          reached_allows of (record { count = count; shared = at.g_lt; reached = λ t l. (all t l).here.reached }) (erroneous at.aimed)
 
-      pub smallest-least : (vs : List ℕ) → Allowed T m row g vs → ls ≼ vs
-      smallest-least vs a = go at.aimed
+      pub smallest_least : (vs : List ℕ) → Allowed T m row g vs → ls ≼ vs
+      smallest_least vs a = go at.aimed
         where
           h : EachReaches s m g vs
-          h = allows-reached of a
+          h = allows_reached of a
 
           go : Aimed s failed rows m row g u → ls ≼ vs
-          go (no-failed z e q) = absurd (omega (arith, ul))
+          go (no_failed z e q) = absurd (omega (arith, ul))
           go (picked k z fk p) =
-              let (v, vl, e, r) = fails-reached z fk vs a in
-              fails-least (askedCell failed rows row u) ls count all (own-cell failed rows z refl ∙ fk) (λ t. other-cell failed rows z) ul p vs
+              let (v, vl, e, r) = fails_reached z fk vs a in
+              fails_least (asked_cell failed rows row u) ls count all (own_cell failed rows z refl ∙ fk) (λ t. other_cell failed rows z) ul p vs
               h.reached v vl e h.count
           go (unfit i z c q) = absurd (omega (arith, ul))
-          go (fit i z c q) = each-least (askedCell failed rows row u) ls count all vs h.count (file-stores u z vs a)
+          go (fit i z c q) = each_least (asked_cell failed rows row u) ls count all vs h.count (file_stores u z vs a)

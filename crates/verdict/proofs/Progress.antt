@@ -16,13 +16,13 @@ use Rattle.model.specs.Memory.{Marked}
 use Rattle.model.specs.Claims.{First}
 use Rattle.positions.specs.declared.plan.Plan.{Plan}
 use Rattle.verdict.specs.declared.search.Verdict.TheVariants.{Safe, Possible}
-use Rattle.files.proofs.TableLaws.{four-numbers}
+use Rattle.files.proofs.TableLaws.{four_numbers}
 use Rattle.verdict.specs.ErrorRows.{ErrorsOf, Judged}
-use Rattle.reaching.specs.Reaching.{Reached, Choice, Least, askedCell}
+use Rattle.reaching.specs.Reaching.{Reached, Choice, Least, asked_cell}
 use Rattle.verdict.proofs.Lists.{≼-cons}
-use Rattle.reaching.proofs.Numbers.{least_first, least-none}
-use Rattle.verdict.proofs.LentIsTable.{threads, row-le, allows-reached}
-use Rattle.verdict.proofs.OneRow.{Allowed, NoneAt, StoreFor, AimedAt, stuck-none, smallest-allowed, smallest-least}
+use Rattle.reaching.proofs.Numbers.{least_first, least_none}
+use Rattle.verdict.proofs.LentIsTable.{threads, row_le, allows_reached}
+use Rattle.verdict.proofs.OneRow.{Allowed, NoneAt, StoreFor, AimedAt, stuck_none, smallest_allowed, smallest_least}
 
 -- ---- what is passed
 
@@ -45,9 +45,9 @@ module _ {s : Plan} {failed : ℕ} {rows : List ℕ} {n : ℕ} {m : List ℕ} wh
   passed_start T of = record { earlier = λ w l. absurd (omega arith); lower = λ w e l. absurd (omega arith) }
 
   -- one shared store more
-  pub passed-shared : {row g : ℕ} → Passed s failed rows n m row g → ((T : Table) → ErrorsOf T s failed rows n → NoneAt T m row g)
+  pub passed_shared : {row g : ℕ} → Passed s failed rows n m row g → ((T : Table) → ErrorsOf T s failed rows n → NoneAt T m row g)
       → Passed s failed rows n m row (g + 1)
-  passed-shared {row} {g} h none T of =
+  passed_shared {row} {g} h none T of =
       record {
         earlier = (h T of).earlier;
         lower = λ w e l a. by_cases (dec_lt w.shared g) (λ b. (h T of).lower w e b a)
@@ -55,18 +55,18 @@ module _ {s : Plan} {failed : ℕ} {rows : List ℕ} {n : ℕ} {m : List ℕ} wh
       }
 
   -- one row more
-  pub passed-row : {row g : ℕ} → Passed s failed rows n m row g → s.g ≤ g → Passed s failed rows n m (row + 1) 0
-  passed-row {row} {g} h le T of =
+  pub passed_row : {row g : ℕ} → Passed s failed rows n m row g → s.g ≤ g → Passed s failed rows n m (row + 1) 0
+  passed_row {row} {g} h le T of =
       record {
         earlier = λ w l a. by_cases (dec_lt w.row row) (λ b. (h T of).earlier w b a)
-            (λ b. (h T of).lower w (omega arith) (omega (arith, (allows-reached of a).shared)) a);
+            (λ b. (h T of).lower w (omega arith) (omega (arith, (allows_reached of a).shared)) a);
         lower = λ w e l. absurd (omega arith);
       }
 
   -- every row
-  pub passed-safe : {row : ℕ} → Passed s failed rows n m row 0 → n < row → (T : Table) → ErrorsOf T s failed rows n → Judged T m Safe
-  passed-safe h l T of =
-      record { verdict = safe (λ w a. (h T of).earlier w (omega (arith, row-le of a.erroneous)) a); padded = tt }
+  pub passed_safe : {row : ℕ} → Passed s failed rows n m row 0 → n < row → (T : Table) → ErrorsOf T s failed rows n → Judged T m Safe
+  passed_safe h l T of =
+      record { verdict = safe (λ w a. (h T of).earlier w (omega (arith, row_le of a.erroneous)) a); padded = tt }
 
 -- ---- the threads at one shared store
 
@@ -75,7 +75,7 @@ module _ {s : Plan} {failed : ℕ} {rows : List ℕ} {n : ℕ} {m : List ℕ} wh
 pub record Choosing (s : Plan) (failed : ℕ) (rows : List ℕ) (n : ℕ) (m : List ℕ) (row u g : ℕ) (ls : List ℕ) (t : ℕ) : Type 0 where
   pub passed : Passed s failed rows n m row g
   pub at : AimedAt s failed rows n m row g u
-  pub t-le : t ≤ s.n
+  pub t_le : t ≤ s.n
   pub four : length ls ≡ 4
   pub chosen : (i : ℕ) → i < t → First (StoreFor s failed rows m row g u i) (get_or ls i 0)
   pub zeros : (i : ℕ) → t ≤ i → get_or ls i 0 ≡ 0
@@ -83,13 +83,13 @@ pub record Choosing (s : Plan) (failed : ℕ) (rows : List ℕ) (n : ℕ) (m : L
 module _ {s : Plan} {failed : ℕ} {rows : List ℕ} {n : ℕ} {m : List ℕ} {row u g : ℕ} {ls : List ℕ} {t : ℕ}
     (c : Choosing s failed rows n m row u g ls t) where
   -- d is the cell of thread t, and l the smallest store for it
-  module _ (tl : t < s.n) {d l : ℕ} (cell : d ≡ askedCell failed rows row u t) (least : Least (Choice (Reached s m g t) d) s.l l) where
-    pub choosing-next : t < 4 → ¬ (l ≡ s.l) → Choosing s failed rows n m row u g (set ls t l) (t + 1)
-    choosing-next t4 ne =
+  module _ (tl : t < s.n) {d l : ℕ} (cell : d ≡ asked_cell failed rows row u t) (least : Least (Choice (Reached s m g t) d) s.l l) where
+    pub choosing_next : t < 4 → ¬ (l ≡ s.l) → Choosing s failed rows n m row u g (set ls t l) (t + 1)
+    choosing_next t4 ne =
         record {
           passed = c.passed;
           at = c.at;
-          t-le = omega arith;
+          t_le = omega arith;
           four = length-set ls t l ∙ c.four;
           chosen = below_more (λ i. First (StoreFor s failed rows m row g u i) (get_or (set ls t l) i 0)) t
               (λ i b. rw (get_or-set_other ls t i l 0 (omega arith)) (c.chosen i b))
@@ -98,8 +98,8 @@ module _ {s : Plan} {failed : ℕ} {rows : List ℕ} {n : ℕ} {m : List ℕ} {r
         }
 
     -- there is none
-    pub stuck-passed : l ≡ s.l → Passed s failed rows n m row (g + 1)
-    stuck-passed e = passed-shared c.passed (λ T of. stuck-none of c.at t tl (rw (sym cell) (least-none least e)))
+    pub stuck_passed : l ≡ s.l → Passed s failed rows n m row (g + 1)
+    stuck_passed e = passed_shared c.passed (λ T of. stuck_none of c.at t tl (rw (sym cell) (least_none least e)))
 
   -- every thread is in its store
   module _ (all : t ≡ s.n) {T : Table} (of : ErrorsOf T s failed rows n) where
@@ -114,24 +114,24 @@ module _ {s : Plan} {failed : ℕ} {rows : List ℕ} {n : ℕ} {m : List ℕ} {r
     unfolding stores
     each i l = rw (get_or-take T.n ls i 0 (omega (arith, threads of))) (c.chosen i (omega arith))
 
-    found-smallest : SmallestWitness T (Marked T m) (record { row = row; shared = g; locals = stores })
-    found-smallest =
+    found_smallest : SmallestWitness T (Marked T m) (record { row = row; shared = g; locals = stores })
+    found_smallest =
         record {
-          allowed = smallest-allowed of c.at stores count each;
-          least = λ v a. ≼-cons (row_first v a) (λ e. ≼-cons (shared-first v a e) (λ q.
-              smallest-least of c.at stores count each v.locals (allowed_at (sym e) (sym q) a)));
+          allowed = smallest_allowed of c.at stores count each;
+          least = λ v a. ≼-cons (row_first v a) (λ e. ≼-cons (shared_first v a e) (λ q.
+              smallest_least of c.at stores count each v.locals (allowed_at (sym e) (sym q) a)));
         }
       where
         row_first : (v : Witness) → Allows T (Marked T m) v → row ≤ v.row
         row_first v a = let no : ¬ (v.row < row) = λ l. (c.passed T of).earlier v l a in omega arith
 
-        shared-first : (v : Witness) → Allows T (Marked T m) v → row ≡ v.row → g ≤ v.shared
-        shared-first v a e = let no : ¬ (v.shared < g) = λ l. (c.passed T of).lower v (sym e) l a in omega arith
+        shared_first : (v : Witness) → Allows T (Marked T m) v → row ≡ v.row → g ≤ v.shared
+        shared_first v a e = let no : ¬ (v.shared < g) = λ l. (c.passed T of).lower v (sym e) l a in omega arith
 
-    pub found-judged : Judged T m (Possible row g (get_or ls 0 0) (get_or ls 1 0) (get_or ls 2 0) (get_or ls 3 0))
+    pub found_judged : Judged T m (Possible row g (get_or ls 0 0) (get_or ls 1 0) (get_or ls 2 0) (get_or ls 3 0))
     unfolding stores
-    found-judged =
+    found_judged =
         record {
-          verdict = rw (four-numbers ls c.four) (possible found-smallest);
-          padded = rw (four-numbers ls c.four) (λ i l. c.zeros i (omega (arith, threads of)));
+          verdict = rw (four_numbers ls c.four) (possible found_smallest);
+          padded = rw (four_numbers ls c.four) (λ i l. c.zeros i (omega (arith, threads of)));
         }

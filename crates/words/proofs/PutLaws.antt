@@ -11,10 +11,10 @@ use lib.Seq.{length-take-le, take-suc, take_all}
 use Rattle.words.specs.Text.{digit, decimal, Written}
 use Rattle.numbers.specs.Putting.{Put}
 use Rattle.numbers.proofs.PutLaws.{put_then}
-use Rattle.words.proofs.DecimalLaws.{decimal-one, decimal-more}
+use Rattle.words.proofs.DecimalLaws.{decimal_one, decimal_more}
 
-pub put-none : (at : ℕ) (d : List ℕ) → Put [] at d d at
-put-none at d = record { bytes = refl; next = sym (add-zero at) }
+pub put_none : (at : ℕ) (d : List ℕ) → Put [] at d d at
+put_none at d = record { bytes = refl; next = sym (add-zero at) }
 
 pub put_byte : (b at : ℕ) (d : List ℕ) → Put (b ∷ []) at d (set d at b) (at + 1)
 put_byte b at d = record { bytes = refl; next = refl }
@@ -32,14 +32,14 @@ module _ {i at : ℕ} {d d' : List ℕ} (word : List ℕ) (p : Put (take i word)
   pub word_more : i < length word → Put (take (i + 1) word) at d (set d' (at + i) (get_or word i 0)) (at + (i + 1))
   word_more h = rw (take_more word i h, ← add_assoc at i 1) (put_then p (put_byte _ _ _))
 
-  pub word-all : length word ≤ i → Put word at d d' (at + i)
-  word-all h = rw (take_all i word h) at p
+  pub word_all : length word ≤ i → Put word at d d' (at + i)
+  word_all h = rw (take_all i word h) at p
 
 -- the last digit of a number
 module _ {v at r : ℕ} {d d' : List ℕ} where
-  pub put-decimal-one : v < 10 → Put (digit (v % 10) ∷ []) at d d' r → Put (decimal v) at d d' r
-  put-decimal-one h p = let e : v % 10 ≡ v = omega arith in rw (decimal-one v h) (rw e at p)
+  pub put_decimal_one : v < 10 → Put (digit (v % 10) ∷ []) at d d' r → Put (decimal v) at d d' r
+  put_decimal_one h p = let e : v % 10 ≡ v = omega arith in rw (decimal_one v h) (rw e at p)
 
-  pub put-decimal-more : {m : ℕ} {d'' : List ℕ} → 10 ≤ v → Put (decimal (v / 10)) at d d'' m → Put (digit (v % 10) ∷ []) m d'' d' r
+  pub put_decimal_more : {m : ℕ} {d'' : List ℕ} → 10 ≤ v → Put (decimal (v / 10)) at d d'' m → Put (digit (v % 10) ∷ []) m d'' d' r
       → Put (decimal v) at d d' r
-  put-decimal-more h p q = rw (decimal-more v h) (put_then p q)
+  put_decimal_more h p q = rw (decimal_more v h) (put_then p q)

@@ -12,9 +12,9 @@ use Rattle.words.proofs.line.put_line.Kinds as put-line-kinds
 use Rattle.words.proofs.line.put_note.Reads as put-note
 use Rattle.words.proofs.line.put_note.Kinds as put-note-kinds
 
-pub written-unique : {text before after after' : List ℕ} {r r' : ℕ} → Written text before after r → Written text before after' r'
+pub written_unique : {text before after after' : List ℕ} {r r' : ℕ} → Written text before after r → Written text before after' r'
     → (r ≡ r') × (after ≡ after')
-written-unique w w' = (w.count ∙ sym w'.count, w.bytes ∙ sym w'.bytes)
+written_unique w w' = (w.count ∙ sym w'.count, w.bytes ∙ sym w'.bytes)
 
 -- the claim of an `ensures` fixes the result and a buffer
 abbrev pub Fixes : (ps : List (ParamKind 1)) (r : ResultKind 1) → Out 1 ps r → ((κs : Lfts 1) → AtExit (ended_of 1 ps r) κs → List ℕ) → Type 0
@@ -22,10 +22,10 @@ Fixes ps r Post buffer =
     (κs : Lfts 1) (a : Dens κs ps) (x x' : (res_t r κs).Denot) (s s' : AtExit (ended_of 1 ps r) κs)
     → Post κs a x s → Post κs a x' s' → (x ≡ x') × (buffer κs s ≡ buffer κs s')
 
-pub put-line-fixes : (κs : Lfts 3) (a : Dens κs put-line-kinds.ps) (x x' : ℕ) (s s' : AtExit (ended_of 3 put-line-kinds.ps put-line-kinds.r) κs)
+pub put_line_fixes : (κs : Lfts 3) (a : Dens κs put-line-kinds.ps) (x x' : ℕ) (s s' : AtExit (ended_of 3 put-line-kinds.ps put-line-kinds.r) κs)
     → put-line.Post κs a x s → put-line.Post κs a x' s' → (x ≡ x') × (s.0.now ≡ s'.0.now)
-put-line-fixes κs a x x' s s' = written-unique
+put_line_fixes κs a x x' s s' = written_unique
 
-pub put-note-fixes : (κs : Lfts 3) (a : Dens κs put-note-kinds.ps) (x x' : ℕ) (s s' : AtExit (ended_of 3 put-note-kinds.ps put-note-kinds.r) κs)
+pub put_note_fixes : (κs : Lfts 3) (a : Dens κs put-note-kinds.ps) (x x' : ℕ) (s s' : AtExit (ended_of 3 put-note-kinds.ps put-note-kinds.r) κs)
     → put-note.Post κs a x s → put-note.Post κs a x' s' → (x ≡ x') × (s.0.now ≡ s'.0.now)
-put-note-fixes κs a x x' s s' = written-unique
+put_note_fixes κs a x x' s s' = written_unique

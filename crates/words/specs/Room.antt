@@ -2,5 +2,5 @@
 use Rattle.std.specs.Prelude.{ℕ}
 
 -- a blank and a number of 64 bits, which has at most 20 digits
-abbrev pub fieldRoom : ℕ
-fieldRoom = 21
+abbrev pub field_room : ℕ
+field_room = 21

@@ -15,8 +15,8 @@ bytes (string.◌∷◌ c s) = code c ∷ bytes s
 abbrev pub blank : ℕ
 blank = code " "
 
-abbrev pub lineFeed : ℕ
-lineFeed = code "\n"
+abbrev pub line_feed : ℕ
+line_feed = code "\n"
 
 -- ---- numbers
 
@@ -44,11 +44,11 @@ fields (v ∷ vs) = field v ++ fields vs
 
 -- a word, its numbers, and a line feed
 unfoldable pub line : List ℕ → List ℕ → List ℕ
-line word numbers = word ++ fields numbers ++ (lineFeed ∷ [])
+line word numbers = word ++ fields numbers ++ (line_feed ∷ [])
 
 -- a word, one number, the rest of the sentence, and a line feed, as "byte 14: bytes after the end"
 unfoldable pub note : List ℕ → ℕ → List ℕ → List ℕ
-note word number rest = word ++ field number ++ rest ++ (lineFeed ∷ [])
+note word number rest = word ++ field number ++ rest ++ (line_feed ∷ [])
 
 -- ---- writing
 

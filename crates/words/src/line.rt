@@ -2,15 +2,15 @@
 ghost use Rattle.std.specs.Prelude.{◌+◌, ◌*◌, ◌≤◌, length};
 ghost use Rattle.words.specs.Text.{field, line, note, Written};
 ghost use Rattle.numbers.specs.Putting.{Put};
-ghost use Rattle.words.specs.Room.{fieldRoom};
+ghost use Rattle.words.specs.Room.{field_room};
 
 use crate::bytes::{put_byte, put_word};
 use crate::decimal::put_decimal;
 
 // Puts a blank and v from `at` on, and gives the place past them.
 fn put_field(out: &mut [u8], at: usize, v: usize) -> usize
-    requires { at + fieldRoom ≤ length out.old }
-    ensures { Put (field v) at out.old out.new result × (result ≤ at + fieldRoom) }
+    requires { at + field_room ≤ length out.old }
+    ensures { Put (field v) at out.old out.new result × (result ≤ at + field_room) }
 {
     let next = put_byte(out, at, b' ');
     put_decimal(out, next, v)
@@ -18,7 +18,7 @@ fn put_field(out: &mut [u8], at: usize, v: usize) -> usize
 
 // Writes a word, the numbers and a line feed.
 pub fn put_line(out: &mut [u8], word: &[u8], numbers: &[usize]) -> usize
-    requires { length word.now + fieldRoom * length numbers.now + 1 ≤ length out.old }
+    requires { length word.now + field_room * length numbers.now + 1 ≤ length out.old }
     ensures { Written (line word.now numbers.now) out.old out.new result }
 {
     let mut at = put_word(out, 0, word);
@@ -30,7 +30,7 @@ pub fn put_line(out: &mut [u8], word: &[u8], numbers: &[usize]) -> usize
 
 // Writes a word, a number, the rest of the sentence and a line feed.
 pub fn put_note(out: &mut [u8], word: &[u8], number: usize, rest: &[u8]) -> usize
-    requires { length word.now + fieldRoom + length rest.now + 1 ≤ length out.old }
+    requires { length word.now + field_room + length rest.now + 1 ≤ length out.old }
     ensures { Written (note word.now number rest.now) out.old out.new result }
 {
     let counted = put_word(out, 0, word);

@@ -2,12 +2,12 @@
 use mathlib.Core.Path.{sym}
 use Prim.Native.Nat.{ℕ}
 use lib.ListN.{length-replicate}
-use Rattle.files.specs.Table.{mostFacts}
+use Rattle.files.specs.Table.{most_facts}
 use Rattle.claim_check.proofs.memory.Statement.{statement}
 use Rattle.claim_check.proofs.memory.Tie as tie
 
 returns : tie.Need-returns
-returns c = sym (length-replicate {0} {A = ℕ} mostFacts 0)
+returns c = sym (length-replicate {0} {A = ℕ} most_facts 0)
 
 pub memory-spec : {M : Type 1} → statement M
 memory-spec = tie.close (tie.spec returns)

@@ -2,12 +2,12 @@
 use mathlib.Core.Path.{sym}
 use Prim.Native.Nat.{ℕ, ◌+◌}
 use lib.ListN.{length-replicate}
-use Rattle.files.specs.Table.{mostFacts}
+use Rattle.files.specs.Table.{most_facts}
 use Rattle.claim_check.proofs.room.Statement.{statement}
 use Rattle.claim_check.proofs.room.Tie as tie
 
 returns : tie.Need-returns
-returns c = sym (length-replicate {0} {A = ℕ} (mostFacts + 9) 0)
+returns c = sym (length-replicate {0} {A = ℕ} (most_facts + 9) 0)
 
 pub room-spec : {M : Type 1} → statement M
 room-spec = tie.close (tie.spec returns)

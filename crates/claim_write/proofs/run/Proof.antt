@@ -1,6 +1,6 @@
 -- `claim_write::run` is safe and ends: the bytes of a claim that is written stand within the space.
 use borrow.Author.Rules.{rules}
-use Rattle.claim_write_call.proofs.WrittenLaws.{written-within}
+use Rattle.claim_write_call.proofs.WrittenLaws.{written_within}
 use Rattle.claim_write.proofs.run.Statement.{statement}
 use Rattle.claim_write.proofs.run.Tie as tie
 
@@ -19,12 +19,12 @@ enum-known-answer c = search rules
 array-share-prefix-space : tie.Need-array-share-prefix-space
 array-share-prefix-space c =
     let told = c.before.before.before.write-any in
-    (written-within (rw c.before.answer.given.1 at told.ensures.told)).0
+    (written_within (rw c.before.answer.given.1 at told.ensures.told)).0
 
 slice-aggregate-save : tie.Need-slice-aggregate-save
 slice-aggregate-save c =
     let told = c.before.before.before.before.write-any in
-    (written-within (rw c.before.before.answer.given.1 at told.ensures.told)).1
+    (written_within (rw c.before.before.answer.given.1 at told.ensures.told)).1
 
 save-requires : tie.Need-save-requires
 save-requires c κs = search rules

@@ -12,18 +12,18 @@ use Rattle.files.specs.Table.{Table, Sound, W}
 use Rattle.model.specs.Rules.{Fact, Starts, ClosedWithStarts, Derives}
 use Rattle.model.specs.Errors.{Witness}
 use Rattle.model.specs.Verdict.{◌≼◌, numbers, Verdict, safe, possible}
-use Rattle.model.specs.Positions.{Fits, factAt}
-use Rattle.model.specs.Claims.{Claimed, First, LacksStart, Missing, Finding, accepted, lacks-start, not-closed, allows-error}
+use Rattle.model.specs.Positions.{Fits, fact_at}
+use Rattle.model.specs.Claims.{Claimed, First, LacksStart, Missing, Finding, accepted, lacks_start, not_closed, allows_error}
 use Rattle.model.specs.Claims.{Finds, whole, lacking, missing, allowing}
-use Rattle.model.proofs.Lists.{mem-first, from_cons}
+use Rattle.model.proofs.Lists.{mem_first, from_cons}
 use Rattle.model.proofs.Order.{≼_refl, ≼_trans, ≼-total}
-use Rattle.model.proofs.Monotone.{verdict-cast}
-use Rattle.model.proofs.Claims.{none-lacking-starts, none-missing-closed, witness-row, claimed-fits}
+use Rattle.model.proofs.Monotone.{verdict_cast}
+use Rattle.model.proofs.Claims.{none_lacking_starts, none_missing_closed, witness_row, claimed_fits}
 use Rattle.model.proofs.Decide.{member?, first_below}
 use Rattle.model.proofs.Decide.Yields.{fact?}
-use Rattle.model.proofs.Decide.Errors.{witnesses, allows-listed}
-use Rattle.model.proofs.Decide.Claims.{lacksStart?, missing?}
-use Rattle.model.proofs.Decide.Derivable.{facts-listed}
+use Rattle.model.proofs.Decide.Errors.{witnesses, allows_listed}
+use Rattle.model.proofs.Decide.Claims.{lacks_start?, missing?}
+use Rattle.model.proofs.Decide.Derivable.{facts_listed}
 
 -- ---- the verdict
 
@@ -32,29 +32,29 @@ record Smallest (ws : List Witness) (w : Witness) : Type 0 where
   member : Memᴰ w ws
   least : (v : Witness) → Memᴰ v ws → numbers w ≼ numbers v
 
-first-smallest : {w : Witness} {ws : List Witness} → ((v : Witness) → Memᴰ v ws → numbers w ≼ numbers v) → Smallest (w ∷ ws) w
-first-smallest {w} least = record { member = mem-first; least = λ v. from_cons (λ v. numbers w ≼ numbers v) (≼_refl _) least }
+first_smallest : {w : Witness} {ws : List Witness} → ((v : Witness) → Memᴰ v ws → numbers w ≼ numbers v) → Smallest (w ∷ ws) w
+first_smallest {w} least = record { member = mem_first; least = λ v. from_cons (λ v. numbers w ≼ numbers v) (≼_refl _) least }
 
 -- a list of errors of n threads is empty, or it has a smallest member
-smallest-member : {n : ℕ} (ws : List Witness) → ((w : Witness) → Memᴰ w ws → length w.locals ≡ n)
+smallest_member : {n : ℕ} (ws : List Witness) → ((w : Witness) → Memᴰ w ws → length w.locals ≡ n)
     → ((w : Witness) → ¬ Memᴰ w ws) ⊎ ((w : Witness) × Smallest ws w)
-smallest-member [] long = inl (λ w m. elim m [ ])
-smallest-member (w ∷ ws) long = inr (go (smallest-member ws (λ v i. long v (Memᴰ.tail i))))
+smallest_member [] long = inl (λ w m. elim m [ ])
+smallest_member (w ∷ ws) long = inr (go (smallest_member ws (λ v i. long v (Memᴰ.tail i))))
   where
     go : ((w : Witness) → ¬ Memᴰ w ws) ⊎ ((w : Witness) × Smallest ws w) → (v : Witness) × Smallest (w ∷ ws) v
-    go (inl n) = (w, first-smallest (λ v i. absurd (n v i)))
+    go (inl n) = (w, first_smallest (λ v i. absurd (n v i)))
     go (inr (v, s)) =
-        ⊎_elim (λ p. (w, first-smallest (λ u i. ≼_trans p (s.least u i))))
+        ⊎_elim (λ p. (w, first_smallest (λ u i. ≼_trans p (s.least u i))))
         (λ p. (v, record { member = Memᴰ.tail s.member; least = λ u. from_cons (λ u. numbers v ≼ numbers u) p s.least }))
-        (≼-total (numbers w) (numbers v) (omega (arith, long w mem-first, long v (Memᴰ.tail s.member))))
+        (≼-total (numbers w) (numbers v) (omega (arith, long w mem_first, long v (Memᴰ.tail s.member))))
 
 module _ (T : Table) (hn : 0 < T.n) (fs : List Fact) where
-  verdict-on-list : (v : Option Witness) × Verdict T (λ f. Memᴰ f fs) v
-  verdict-on-list =
-      let listed = allows-listed T fs hn in
+  verdict_on_list : (v : Option Witness) × Verdict T (λ f. Memᴰ f fs) v
+  verdict_on_list =
+      let listed = allows_listed T fs hn in
       ⊎_elim (λ n. (none, safe (λ w a. n w ((listed w).0 a))))
       (λ (w, s). (some w, possible (record { allowed = (listed w).1 s.member; least = λ v a. s.least v ((listed v).0 a) })))
-      (smallest-member (witnesses T fs) (λ w m. ((listed w).1 m).count))
+      (smallest_member (witnesses T fs) (λ w m. ((listed w).1 m).count))
 
 -- ---- the finding
 
@@ -62,32 +62,32 @@ module _ {T : Table} (sound : Sound T) (fs : List Fact) (fits : (f : Fact) → M
   abbrev In : Fact → Type 0
   In f = Memᴰ f fs
 
-  by-verdict : ClosedWithStarts T In → (v : Option Witness) × Verdict T In v → (x : Finding) × Finds T In x
-  by-verdict c (none, safe s) = (accepted, whole c s)
-  by-verdict c (some w, possible s) = (allows-error w.row, allowing c (witness-row s))
+  by_verdict : ClosedWithStarts T In → (v : Option Witness) × Verdict T In v → (x : Finding) × Finds T In x
+  by_verdict c (none, safe s) = (accepted, whole c s)
+  by_verdict c (some w, possible s) = (allows_error w.row, allowing c (witness_row s))
 
-  by-position : Starts T In → ((p : ℕ) × First (Missing T In) p) ⊎ ((p : ℕ) → p < W T → ¬ Missing T In p) → (x : Finding) × Finds T In x
-  by-position s (inl (p, f)) = (not-closed p, missing s f)
-  by-position s (inr n) =
-      by-verdict (record { starts = s; closed = none-missing-closed sound fits (λ f i. member? fact? f fs) n })
-      (verdict-on-list T sound.n.0 fs)
+  by_position : Starts T In → ((p : ℕ) × First (Missing T In) p) ⊎ ((p : ℕ) → p < W T → ¬ Missing T In p) → (x : Finding) × Finds T In x
+  by_position s (inl (p, f)) = (not_closed p, missing s f)
+  by_position s (inr n) =
+      by_verdict (record { starts = s; closed = none_missing_closed sound fits (λ f i. member? fact? f fs) n })
+      (verdict_on_list T sound.n.0 fs)
 
-  by-thread : ((t : ℕ) × First (LacksStart T In) t) ⊎ ((t : ℕ) → t < T.n → ¬ LacksStart T In t) → (x : Finding) × Finds T In x
-  by-thread (inl (t, f)) = (lacks-start t, lacking f)
-  by-thread (inr n) =
-      by-position (none-lacking-starts sound fits (λ f i. member? fact? f fs) n) (first_below (missing? T fs) (W T))
+  by_thread : ((t : ℕ) × First (LacksStart T In) t) ⊎ ((t : ℕ) → t < T.n → ¬ LacksStart T In t) → (x : Finding) × Finds T In x
+  by_thread (inl (t, f)) = (lacks_start t, lacking f)
+  by_thread (inr n) =
+      by_position (none_lacking_starts sound fits (λ f i. member? fact? f fs) n) (first_below (missing? T fs) (W T))
 
-  finding-on-list : (x : Finding) × Finds T In x
-  finding-on-list = by-thread (first_below (lacksStart? T fs) T.n)
+  finding_on_list : (x : Finding) × Finds T In x
+  finding_on_list = by_thread (first_below (lacks_start? T fs) T.n)
 
 -- ---- of a sound table
 
 module _ {T : Table} (sound : Sound T) where
-  pub verdict-exists : (v : Option Witness) × Verdict T (Derives T) v
-  verdict-exists =
-      let (fs, listed) = facts-listed sound in
-      let (v, judged) = verdict-on-list T sound.n.0 fs in
-      (v, verdict-cast (λ f. (listed f).1) (λ f. (listed f).0) judged)
+  pub verdict_exists : (v : Option Witness) × Verdict T (Derives T) v
+  verdict_exists =
+      let (fs, listed) = facts_listed sound in
+      let (v, judged) = verdict_on_list T sound.n.0 fs in
+      (v, verdict_cast (λ f. (listed f).1) (λ f. (listed f).0) judged)
 
-  pub finding-exists : (ps : List ℕ) → ((p : ℕ) → Memᴰ p ps → p < W T) → (x : Finding) × Finds T (Claimed T ps) x
-  finding-exists ps below = finding-on-list sound (map (factAt T) ps) (claimed-fits sound ps below)
+  pub finding_exists : (ps : List ℕ) → ((p : ℕ) → Memᴰ p ps → p < W T) → (x : Finding) × Finds T (Claimed T ps) x
+  finding_exists ps below = finding_on_list sound (map (fact_at T) ps) (claimed_fits sound ps below)

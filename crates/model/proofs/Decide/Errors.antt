@@ -17,9 +17,9 @@ use Rattle.model.specs.Rules.{Fact, G, P, Q}
 use Rattle.model.specs.Errors.{Cell, Matches, Erroneous, failed, matched, Reaches, Witness, Allows, Safe}
 use Rattle.model.specs.Verdict.{◌≼◌, end, less, more, numbers, SmallestWitness, Verdict, safe, possible}
 use Rattle.model.specs.Claims.{AllowsRow}
-use Rattle.model.proofs.Lists.{some-lt, mem-first, from_one, from-flatMap, to-flatMap, only, from-only, to-only}
-use Rattle.model.proofs.Order.{≼_refl, ≼-antisym, witness-by-numbers}
-use Rattle.model.proofs.Decide.{each?, some?, member?, up_to, lt-upTo, all?, any?, Enumerates}
+use Rattle.model.proofs.Lists.{some_lt, mem_first, from_one, from_flat_map, to_flat_map, only, from_only, to_only}
+use Rattle.model.proofs.Order.{≼_refl, ≼-antisym, witness_by_numbers}
+use Rattle.model.proofs.Decide.{each?, some?, member?, up_to, lt_up_to, all?, any?, Enumerates}
 
 -- ---- erroneous stores
 
@@ -40,27 +40,27 @@ module _ (T : Table) (g : ℕ) (ls : List ℕ) where
       (Dec.and (cell? r.shared g) (all? (λ t. cell? (get_or r.locals t 0) (get_or ls t 0)) T.n))
 
   -- what row 0 and the other rows say
-  pub from-failed : Erroneous T g ls 0 → (t : ℕ) × (t < T.n) × (T.failed ≡ suc (get_or ls t 0))
-  from-failed (failed t h e) = (t, h, e)
+  pub from_failed : Erroneous T g ls 0 → (t : ℕ) × (t < T.n) × (T.failed ≡ suc (get_or ls t 0))
+  from_failed (failed t h e) = (t, h, e)
 
-  pub from-matched : {i : ℕ} → Erroneous T g ls (suc i) → (r : Error) × (get_elem? T.errors i ≡ some r) × Matches T r g ls
-  from-matched (matched i r e m) = (r, e, m)
+  pub from_matched : {i : ℕ} → Erroneous T g ls (suc i) → (r : Error) × (get_elem? T.errors i ≡ some r) × Matches T r g ls
+  from_matched (matched i r e m) = (r, e, m)
 
-  rowOf? : (i : ℕ) (o : Option Error) → get_elem? T.errors i ≡ o → Dec (Erroneous T g ls (suc i))
+  row_of? : (i : ℕ) (o : Option Error) → get_elem? T.errors i ≡ o → Dec (Erroneous T g ls (suc i))
   unfolding matches? ℕ_discrete
-  rowOf? i none e = no (λ x. let (r, e', m) = from-matched x in let z : ◌≡◌ {A = ℕ} 0 1 = cc in omega arith)
-  rowOf? i (some r) e =
+  row_of? i none e = no (λ x. let (r, e', m) = from_matched x in let z : ◌≡◌ {A = ℕ} 0 1 = cc in omega arith)
+  row_of? i (some r) e =
       map_dec (matched i r e)
-      (λ x. let (r', e', m) = from-matched x in let p : r' ≡ r = cc in subst (λ (x : Error). Matches T x g ls) p m) (matches? r)
+      (λ x. let (r', e', m) = from_matched x in let p : r' ≡ r = cc in subst (λ (x : Error). Matches T x g ls) p m) (matches? r)
 
   erroneous? : (row : ℕ) → Dec (Erroneous T g ls row)
-  unfolding any? rowOf? ℕ_discrete
-  erroneous? zero = map_dec (λ (t, h, e). failed t h e) from-failed (any? (λ t. ℕ_discrete T.failed (suc (get_or ls t 0))) T.n)
-  erroneous? (suc i) = rowOf? i (get_elem? T.errors i) refl
+  unfolding any? row_of? ℕ_discrete
+  erroneous? zero = map_dec (λ (t, h, e). failed t h e) from_failed (any? (λ t. ℕ_discrete T.failed (suc (get_or ls t 0))) T.n)
+  erroneous? (suc i) = row_of? i (get_elem? T.errors i) refl
 
 row_lt : (T : Table) {g row : ℕ} {ls : List ℕ} → Erroneous T g ls row → row < suc (length T.errors)
 row_lt T (failed t h e) = omega arith
-row_lt T (matched i r e m) = omega (arith, some-lt T.errors i e)
+row_lt T (matched i r e m) = omega (arith, some_lt T.errors i e)
 
 -- ---- the stores that facts reach
 
@@ -69,111 +69,111 @@ module _ (fs : List Fact) where
   In f = Memᴰ f fs
 
   -- the local store in which a fact says that thread t is at g
-  standsIn : ℕ → ℕ → Fact → List ℕ
-  standsIn t g (G _ _ _) = []
-  standsIn t g (P e _ _ h l) = only (Dec.and (ℕ_discrete e t) (ℕ_discrete h g)) (l ∷ [])
-  standsIn t g (Q _ _ _ _ _ _) = []
+  stands_in : ℕ → ℕ → Fact → List ℕ
+  stands_in t g (G _ _ _) = []
+  stands_in t g (P e _ _ h l) = only (Dec.and (ℕ_discrete e t) (ℕ_discrete h g)) (l ∷ [])
+  stands_in t g (Q _ _ _ _ _ _) = []
 
-  reaches-from : (t g : ℕ) (p : Fact) → In p → (l : ℕ) → Memᴰ l (standsIn t g p) → Reaches In t g l
-  unfolding standsIn
-  reaches-from t g (G _ _ _) i l m = elim m [ ]
-  reaches-from t g (P e g₁ l₁ h l') i l m =
-      let ((a, b), n) = from-only (Dec.and (ℕ_discrete e t) (ℕ_discrete h g)) m in
+  reaches_from : (t g : ℕ) (p : Fact) → In p → (l : ℕ) → Memᴰ l (stands_in t g p) → Reaches In t g l
+  unfolding stands_in
+  reaches_from t g (G _ _ _) i l m = elim m [ ]
+  reaches_from t g (P e g₁ l₁ h l') i l m =
+      let ((a, b), n) = from_only (Dec.and (ℕ_discrete e t) (ℕ_discrete h g)) m in
       from_one (Reaches In t g) (record { g₁ = g₁; l₁ = l₁; fact = rw (a, b) at i }) n
-  reaches-from t g (Q _ _ _ _ _ _) i l m = elim m [ ]
+  reaches_from t g (Q _ _ _ _ _ _) i l m = elim m [ ]
 
-  reaches-listed : (t g : ℕ) → Enumerates (Reaches In t g) (flat_map (standsIn t g) fs)
-  unfolding standsIn
-  reaches-listed t g l = (
-    λ r. to-flatMap (standsIn t g) r.fact (to-only (Dec.and (ℕ_discrete t t) (ℕ_discrete g g)) (refl, refl) mem-first),
-    λ m. let (p, i, n) = from-flatMap (standsIn t g) fs m in reaches-from t g p i l n,
+  reaches_listed : (t g : ℕ) → Enumerates (Reaches In t g) (flat_map (stands_in t g) fs)
+  unfolding stands_in
+  reaches_listed t g l = (
+    λ r. to_flat_map (stands_in t g) r.fact (to_only (Dec.and (ℕ_discrete t t) (ℕ_discrete g g)) (refl, refl) mem_first),
+    λ m. let (p, i, n) = from_flat_map (stands_in t g) fs m in reaches_from t g p i l n,
   )
 
   -- the local stores of n threads from t on, each reached at g
   choices : ℕ → ℕ → ℕ → List (List ℕ)
   choices g t zero = [] ∷ []
-  choices g t (suc n) = flat_map (λ l. map (λ ls. l ∷ ls) (choices g (suc t) n)) (flat_map (standsIn t g) fs)
+  choices g t (suc n) = flat_map (λ l. map (λ ls. l ∷ ls) (choices g (suc t) n)) (flat_map (stands_in t g) fs)
 
   record Chosen (g t n : ℕ) (ls : List ℕ) : Type 0 where
     count : length ls ≡ n
     reached : (i : ℕ) → i < n → Reaches In (t + i) g (get_or ls i 0)
 
-  chosen-cons : {g t n l : ℕ} {ls : List ℕ} → Reaches In t g l → Chosen g (suc t) n ls → Chosen g t (suc n) (l ∷ ls)
-  chosen-cons {g} {t} {n} {l} {ls} r c = record { count = ap suc c.count; reached = go }
+  chosen_cons : {g t n l : ℕ} {ls : List ℕ} → Reaches In t g l → Chosen g (suc t) n ls → Chosen g t (suc n) (l ∷ ls)
+  chosen_cons {g} {t} {n} {l} {ls} r c = record { count = ap suc c.count; reached = go }
     where
       go : (i : ℕ) → i < suc n → Reaches In (t + i) g (get_or (l ∷ ls) i 0)
       go zero h = rw add-zero r
       go (suc i) h = rw (add-suc, ← suc-add) (c.reached i (omega arith))
 
-  chosen-tail : {g t n l : ℕ} {ls : List ℕ} → Chosen g t (suc n) (l ∷ ls) → Chosen g (suc t) n ls
-  chosen-tail c =
+  chosen_tail : {g t n l : ℕ} {ls : List ℕ} → Chosen g t (suc n) (l ∷ ls) → Chosen g (suc t) n ls
+  chosen_tail c =
       record { count = omega (arith, c.count); reached = λ i h. rw (suc-add, ← add-suc) (c.reached (suc i) (omega arith)) }
 
-  choices-sound : (g t n : ℕ) (ls : List ℕ) → Memᴰ ls (choices g t n) → Chosen g t n ls
+  choices_sound : (g t n : ℕ) (ls : List ℕ) → Memᴰ ls (choices g t n) → Chosen g t n ls
   unfolding choices
-  choices-sound g t zero ls m = from_one (Chosen g t 0) (record { count = refl; reached = λ i h. absurd (omega arith) }) m
-  choices-sound g t (suc n) ls m =
-      let (l, i, k) = from-flatMap (λ l. map (λ ls. l ∷ ls) (choices g (suc t) n)) (flat_map (standsIn t g) fs) m in
+  choices_sound g t zero ls m = from_one (Chosen g t 0) (record { count = refl; reached = λ i h. absurd (omega arith) }) m
+  choices_sound g t (suc n) ls m =
+      let (l, i, k) = from_flat_map (λ l. map (λ ls. l ∷ ls) (choices g (suc t) n)) (flat_map (stands_in t g) fs) m in
       let (rest, j, e) = Memᴰ.of_map (λ ls. l ∷ ls) (choices g (suc t) n) k in
-      subst (Chosen g t (suc n)) e (chosen-cons ((reaches-listed t g l).1 i) (choices-sound g (suc t) n rest j))
+      subst (Chosen g t (suc n)) e (chosen_cons ((reaches_listed t g l).1 i) (choices_sound g (suc t) n rest j))
 
-  choices-complete : (g t n : ℕ) (ls : List ℕ) → Chosen g t n ls → Memᴰ ls (choices g t n)
+  choices_complete : (g t n : ℕ) (ls : List ℕ) → Chosen g t n ls → Memᴰ ls (choices g t n)
   unfolding choices
-  choices-complete g t zero [] c = mem-first
-  choices-complete g t zero (l ∷ ls) c = absurd (omega (arith, c.count))
-  choices-complete g t (suc n) [] c = absurd (omega (arith, c.count))
-  choices-complete g t (suc n) (l ∷ ls) c =
-      to-flatMap (λ l. map (λ ls. l ∷ ls) (choices g (suc t) n)) ((reaches-listed t g l).0 (rw add-zero at (c.reached 0 (omega arith))))
-      (Memᴰ.map (λ ls. l ∷ ls) (choices-complete g (suc t) n ls (chosen-tail c)))
+  choices_complete g t zero [] c = mem_first
+  choices_complete g t zero (l ∷ ls) c = absurd (omega (arith, c.count))
+  choices_complete g t (suc n) [] c = absurd (omega (arith, c.count))
+  choices_complete g t (suc n) (l ∷ ls) c =
+      to_flat_map (λ l. map (λ ls. l ∷ ls) (choices g (suc t) n)) ((reaches_listed t g l).0 (rw add-zero at (c.reached 0 (omega arith))))
+      (Memᴰ.map (λ ls. l ∷ ls) (choices_complete g (suc t) n ls (chosen_tail c)))
 
 -- ---- the witnesses
 
 module _ (T : Table) (fs : List Fact) where
   -- the shared store at which a fact says that thread 0 is
-  sharedOf : Fact → List ℕ
-  sharedOf (G _ _ _) = []
-  sharedOf (P t _ _ g _) = only (ℕ_discrete t 0) (g ∷ [])
-  sharedOf (Q _ _ _ _ _ _) = []
+  shared_of : Fact → List ℕ
+  shared_of (G _ _ _) = []
+  shared_of (P t _ _ g _) = only (ℕ_discrete t 0) (g ∷ [])
+  shared_of (Q _ _ _ _ _ _) = []
 
   -- the rows by which g, ls are erroneous, as witnesses
-  byRow : ℕ → List ℕ → ℕ → List Witness
-  byRow g ls row = only (erroneous? T g ls row) (record { row = row; shared = g; locals = ls } ∷ [])
+  by_row : ℕ → List ℕ → ℕ → List Witness
+  by_row g ls row = only (erroneous? T g ls row) (record { row = row; shared = g; locals = ls } ∷ [])
 
-  byChoice : ℕ → List ℕ → List Witness
-  byChoice g ls = flat_map (byRow g ls) (up_to (suc (length T.errors)))
+  by_choice : ℕ → List ℕ → List Witness
+  by_choice g ls = flat_map (by_row g ls) (up_to (suc (length T.errors)))
 
-  byShared : ℕ → List Witness
-  byShared g = flat_map (byChoice g) (choices fs g 0 T.n)
+  by_shared : ℕ → List Witness
+  by_shared g = flat_map (by_choice g) (choices fs g 0 T.n)
 
   unfoldable pub witnesses : List Witness
-  unfolding flat_map only Dec.and ℕ_discrete up_to erroneous? standsIn choices sharedOf byRow byChoice byShared
-  witnesses = flat_map byShared (flat_map sharedOf fs)
+  unfolding flat_map only Dec.and ℕ_discrete up_to erroneous? stands_in choices shared_of by_row by_choice by_shared
+  witnesses = flat_map by_shared (flat_map shared_of fs)
 
-  witnesses-sound : (w : Witness) → Memᴰ w witnesses → Allows T (In fs) w
+  witnesses_sound : (w : Witness) → Memᴰ w witnesses → Allows T (In fs) w
   unfolding witnesses
-  witnesses-sound w m =
-      let (g, i, m₁) = from-flatMap byShared (flat_map sharedOf fs) m in
-      let (ls, j, m₂) = from-flatMap (byChoice g) (choices fs g 0 T.n) m₁ in
-      let (row, k, m₃) = from-flatMap (byRow g ls) (up_to (suc (length T.errors))) m₂ in
-      let (e, n) = from-only (erroneous? T g ls row) m₃ in
-      let c = choices-sound fs g 0 T.n ls j in
+  witnesses_sound w m =
+      let (g, i, m₁) = from_flat_map by_shared (flat_map shared_of fs) m in
+      let (ls, j, m₂) = from_flat_map (by_choice g) (choices fs g 0 T.n) m₁ in
+      let (row, k, m₃) = from_flat_map (by_row g ls) (up_to (suc (length T.errors))) m₂ in
+      let (e, n) = from_only (erroneous? T g ls row) m₃ in
+      let c = choices_sound fs g 0 T.n ls j in
       from_one (Allows T (In fs)) (record { count = c.count; erroneous = e; reached = λ t h. rw zero-add at (c.reached t h) }) n
 
-  shared-in : {g₁ l₁ g l : ℕ} → In fs (P 0 g₁ l₁ g l) → Memᴰ g (flat_map sharedOf fs)
-  unfolding sharedOf
-  shared-in i = to-flatMap sharedOf i (to-only (ℕ_discrete 0 0) refl mem-first)
+  shared_in : {g₁ l₁ g l : ℕ} → In fs (P 0 g₁ l₁ g l) → Memᴰ g (flat_map shared_of fs)
+  unfolding shared_of
+  shared_in i = to_flat_map shared_of i (to_only (ℕ_discrete 0 0) refl mem_first)
 
-  witnesses-complete : 0 < T.n → (w : Witness) → Allows T (In fs) w → Memᴰ w witnesses
+  witnesses_complete : 0 < T.n → (w : Witness) → Allows T (In fs) w → Memᴰ w witnesses
   unfolding witnesses
-  witnesses-complete hn w a =
+  witnesses_complete hn w a =
       let c : Chosen fs w.shared 0 T.n w.locals = record { count = a.count; reached = λ t h. rw zero-add (a.reached t h) } in
-      to-flatMap byShared (shared-in (a.reached 0 hn).fact)
-      (to-flatMap (byChoice w.shared) (choices-complete fs w.shared 0 T.n w.locals c)
-      (to-flatMap (byRow w.shared w.locals) (lt-upTo _ (row_lt T a.erroneous))
-      (to-only (erroneous? T w.shared w.locals w.row) a.erroneous mem-first)))
+      to_flat_map by_shared (shared_in (a.reached 0 hn).fact)
+      (to_flat_map (by_choice w.shared) (choices_complete fs w.shared 0 T.n w.locals c)
+      (to_flat_map (by_row w.shared w.locals) (lt_up_to _ (row_lt T a.erroneous))
+      (to_only (erroneous? T w.shared w.locals w.row) a.erroneous mem_first)))
 
-  pub allows-listed : 0 < T.n → Enumerates (Allows T (λ f. Memᴰ f fs)) witnesses
-  allows-listed hn w = (witnesses-complete hn w, witnesses-sound w)
+  pub allows_listed : 0 < T.n → Enumerates (Allows T (λ f. Memᴰ f fs)) witnesses
+  allows_listed hn w = (witnesses_complete hn w, witnesses_sound w)
 
 -- ---- the order of witnesses
 
@@ -194,7 +194,7 @@ lex? (x ∷ xs) (y ∷ ys) = go (dec_lt x y) (ℕ_discrete x y) (lex? xs ys)
 witness? : Discrete Witness
 unfolding lex? Dec.and
 witness? w v =
-    map_dec (λ (a, b). witness-by-numbers w v (≼-antisym a b))
+    map_dec (λ (a, b). witness_by_numbers w v (≼-antisym a b))
     (λ e. (subst (λ (x : Witness). numbers w ≼ numbers x) e (≼_refl _), subst (λ (x : Witness). numbers x ≼ numbers w) e (≼_refl _)))
     (Dec.and (lex? (numbers w) (numbers v)) (lex? (numbers v) (numbers w)))
 
@@ -204,21 +204,21 @@ module _ (T : Table) (hn : 0 < T.n) (fs : List Fact) where
   unfoldable pub safe? : Dec (Safe T (λ f. Memᴰ f fs))
   unfolding each? witnesses
   safe? =
-      map_dec (λ n w a. n w ((allows-listed T fs hn w).0 a)) (λ s w m. s w ((allows-listed T fs hn w).1 m))
+      map_dec (λ n w a. n w ((allows_listed T fs hn w).0 a)) (λ s w m. s w ((allows_listed T fs hn w).1 m))
       (each? (λ w. no (λ x. x)) (witnesses T fs))
 
-  unfoldable pub allowsRow? : (row : ℕ) → Dec (AllowsRow T (λ f. Memᴰ f fs) row)
+  unfoldable pub allows_row? : (row : ℕ) → Dec (AllowsRow T (λ f. Memᴰ f fs) row)
   unfolding some? witnesses
-  allowsRow? row =
-      map_dec (λ (w, m, e). record { witness = w; by = e; allows = (allows-listed T fs hn w).1 m })
-      (λ a. (a.witness, (allows-listed T fs hn a.witness).0 a.allows, a.by))
+  allows_row? row =
+      map_dec (λ (w, m, e). record { witness = w; by = e; allows = (allows_listed T fs hn w).1 m })
+      (λ a. (a.witness, (allows_listed T fs hn a.witness).0 a.allows, a.by))
       (some? (λ w. ℕ_discrete w.row row) (witnesses T fs))
 
   smallest? : (w : Witness) → Dec (SmallestWitness T (λ f. Memᴰ f fs) w)
   unfolding each? member? witness? witnesses
   smallest? w =
-      map_dec (λ (m, l). record { allowed = (allows-listed T fs hn w).1 m; least = λ v a. l v ((allows-listed T fs hn v).0 a) })
-      (λ s. ((allows-listed T fs hn w).0 s.allowed, λ v m. s.least v ((allows-listed T fs hn v).1 m)))
+      map_dec (λ (m, l). record { allowed = (allows_listed T fs hn w).1 m; least = λ v a. l v ((allows_listed T fs hn v).0 a) })
+      (λ s. ((allows_listed T fs hn w).0 s.allowed, λ v m. s.least v ((allows_listed T fs hn v).1 m)))
       (Dec.and (member? witness? w (witnesses T fs)) (each? (λ v. lex? (numbers w) (numbers v)) (witnesses T fs)))
 
   unfoldable pub verdict? : (v : Option Witness) → Dec (Verdict T (λ f. Memᴰ f fs) v)

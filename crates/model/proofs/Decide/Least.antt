@@ -10,18 +10,18 @@ use Prim.Native.Nat.{ℕ, zero, suc, ◌<◌}
 use native.Mathlib.Decide.{dec_le, dec_lt, map_dec}
 use lib.ListN.{length, length-map}
 use Rattle.files.specs.Table.{Table, W}
-use Rattle.model.specs.Rules.{Fact, startFact, ClosedWithStarts, Derives, start}
+use Rattle.model.specs.Rules.{Fact, start_fact, ClosedWithStarts, Derives, start}
 use Rattle.model.specs.Errors.{Witness}
 use Rattle.model.specs.Verdict.{Verdict}
-use Rattle.model.specs.Positions.{pos, baseP, baseQ, atG, at_p, atQ, factAt}
+use Rattle.model.specs.Positions.{pos, base_p, base_q, at_g, at_p, at_q, fact_at}
 use Rattle.model.specs.Memory.{FactCount}
-use Rattle.model.proofs.Lists.{from-append, from_cons}
-use Rattle.model.proofs.Monotone.{yields-mono, verdict-cast}
-use Rattle.model.proofs.Least.{derives-closed, least}
+use Rattle.model.proofs.Lists.{from_append, from_cons}
+use Rattle.model.proofs.Monotone.{yields_mono, verdict_cast}
+use Rattle.model.proofs.Least.{derives_closed, least}
 use Rattle.model.proofs.Positions.{stands}
-use Rattle.model.proofs.Counting.{Between, listed-counts}
-use Rattle.model.proofs.Decide.{each?, member?, up_to, upTo-lt, Enumerates}
-use Rattle.model.proofs.Decide.Yields.{fact?, further, further-yields, closed?}
+use Rattle.model.proofs.Counting.{Between, listed_counts}
+use Rattle.model.proofs.Decide.{each?, member?, up_to, up_to_lt, Enumerates}
+use Rattle.model.proofs.Decide.Yields.{fact?, further, further_yields, closed?}
 
 -- ---- the facts that are found
 
@@ -32,7 +32,7 @@ record Search : Type 0 where
 
 module _ (T : Table) where
   begun : Search
-  begun = record { known = []; yielded = map (startFact T) (up_to T.n) }
+  begun = record { known = []; yielded = map (start_fact T) (up_to T.n) }
 
   -- a fact that is yielded and was not known is known
   looked : (f : Fact) (s : Search) → Dec (Memᴰ f s.known) → Dec (Memᴰ f s.yielded) → Search
@@ -53,46 +53,46 @@ module _ (T : Table) where
     known : (f : Fact) → Memᴰ f s.known → Derives T f
     yielded : (f : Fact) → Memᴰ f s.yielded → Derives T f
 
-  begun-derived : Derived begun
+  begun_derived : Derived begun
   unfolding begun
-  begun-derived =
+  begun_derived =
       record {
         known = λ f m. elim m [ ];
-        yielded = λ f m. let (t, i, e) = Memᴰ.of_map (startFact T) (up_to T.n) m in subst (Derives T) e (start t (upTo-lt T.n i));
+        yielded = λ f m. let (t, i, e) = Memᴰ.of_map (start_fact T) (up_to T.n) m in subst (Derives T) e (start t (up_to_lt T.n i));
       }
 
-  looked-derived : (f : Fact) (s : Search) (d : Dec (Memᴰ f s.known)) (e : Dec (Memᴰ f s.yielded))
+  looked_derived : (f : Fact) (s : Search) (d : Dec (Memᴰ f s.known)) (e : Dec (Memᴰ f s.yielded))
       → Derived s → Derived (looked f s d e)
   unfolding looked
-  looked-derived f s (yes _) e h = h
-  looked-derived f s (no _) (no _) h = h
-  looked-derived f s (no _) (yes m) h =
+  looked_derived f s (yes _) e h = h
+  looked_derived f s (no _) (no _) h = h
+  looked_derived f s (no _) (yes m) h =
       let all : (g : Fact) → Memᴰ g (f ∷ s.known) → Derives T g = λ g n. from_cons (Derives T) (h.yielded f m) h.known n in
       record {
         known = all;
         yielded = λ g n.
-            from-append (Derives T) (further T f s.known) s.yielded
-            (λ g o. derives-closed T g (yields-mono all g (further-yields T f s.known g o))) h.yielded n;
+            from_append (Derives T) (further T f s.known) s.yielded
+            (λ g o. derives_closed T g (yields_mono all g (further_yields T f s.known g o))) h.yielded n;
       }
 
-  pass-derived : (fs : List Fact) (s : Search) → Derived s → Derived (pass fs s)
+  pass_derived : (fs : List Fact) (s : Search) → Derived s → Derived (pass fs s)
   unfolding pass
-  pass-derived [] s h = h
-  pass-derived (f ∷ fs) s h = pass-derived fs _ (looked-derived f s _ _ h)
+  pass_derived [] s h = h
+  pass_derived (f ∷ fs) s h = pass_derived fs _ (looked_derived f s _ _ h)
 
-  passes-derived : (k : ℕ) (fs : List Fact) → Derived (passes k fs)
+  passes_derived : (k : ℕ) (fs : List Fact) → Derived (passes k fs)
   unfolding passes
-  passes-derived zero fs = begun-derived
-  passes-derived (suc k) fs = pass-derived fs _ (passes-derived k fs)
+  passes_derived zero fs = begun_derived
+  passes_derived (suc k) fs = pass_derived fs _ (passes_derived k fs)
 
 module _ (T : Table) (fs : List Fact) where
   -- the facts of the list that k passes find
   pub found : ℕ → List Fact
   found k = (passes T k fs).known
 
-  found-derives : (k : ℕ) (f : Fact) → Memᴰ f (found k) → Derives T f
+  found_derives : (k : ℕ) (f : Fact) → Memᴰ f (found k) → Derives T f
   unfolding found
-  found-derives k = (passes-derived T k fs).known
+  found_derives k = (passes_derived T k fs).known
 
 -- ---- exactness
 
@@ -102,7 +102,7 @@ pub record Exact (T : Table) (k : ℕ) (fs : List Fact) : Type 0 where
   pub closed : ClosedWithStarts T (λ f. Memᴰ f fs)
   pub whole : (f : Fact) → Memᴰ f fs → Memᴰ f (found T fs k)
   pub order : Between 0 (W T) (map (pos T) fs)
-  pub facts : (f : Fact) → Memᴰ f fs → factAt T (pos T f) ≡ f
+  pub facts : (f : Fact) → Memᴰ f fs → fact_at T (pos T f) ≡ f
   pub sizes : (0 < T.G) × (0 < T.L)
 
 between? : (lo hi : ℕ) (ps : List ℕ) → Dec (Between lo hi ps)
@@ -111,29 +111,29 @@ between? lo hi [] = dec_le lo hi
 between? lo hi (p ∷ ps) = Dec.and (dec_le lo p) (between? (suc p) hi ps)
 
 unfoldable pub exact? : (T : Table) (k : ℕ) (fs : List Fact) → Dec (Exact T k fs)
-unfolding each? member? closed? up_to further begun looked pass passes found between? dec_lt W pos baseP baseQ atG at_p atQ factAt
+unfolding each? member? closed? up_to further begun looked pass passes found between? dec_lt W pos base_p base_q at_g at_p at_q fact_at
 exact? T k fs =
     map_dec (λ (c, (r, (o, (f, s)))). record { closed = c; whole = r; order = o; facts = f; sizes = s })
     (λ e. (e.closed, (e.whole, (e.order, (e.facts, e.sizes)))))
     (Dec.and (closed? T fs) (Dec.and (each? (λ f. member? fact? f (found T fs k)) fs) (Dec.and (between? 0 (W T) (map (pos T) fs))
-    (Dec.and (each? (λ f. fact? (factAt T (pos T f)) f) fs) (Dec.and (dec_lt 0 T.G) (dec_lt 0 T.L))))))
+    (Dec.and (each? (λ f. fact? (fact_at T (pos T f)) f) fs) (Dec.and (dec_lt 0 T.G) (dec_lt 0 T.L))))))
 
 module _ {T : Table} {k : ℕ} {fs : List Fact} (e : Exact T k fs) where
   -- the derivable facts are those of the list
-  pub exact-listed : Enumerates (Derives T) fs
-  exact-listed f = (least e.closed f, λ m. found-derives T fs k f (e.whole f m))
+  pub exact_listed : Enumerates (Derives T) fs
+  exact_listed f = (least e.closed f, λ m. found_derives T fs k f (e.whole f m))
 
   -- and their number is its length
-  pub exact-count : FactCount T (length fs)
-  exact-count =
+  pub exact_count : FactCount T (length fs)
+  exact_count =
       rw (← (length-map fs (pos T)))
-      (listed-counts (W T) (map (pos T) fs) e.order
-      (λ p l d. Memᴰ.cast (sym (stands T e.sizes.0 e.sizes.1 p l).here) (Memᴰ.map (pos T) ((exact-listed (factAt T p)).0 d)))
+      (listed_counts (W T) (map (pos T) fs) e.order
+      (λ p l d. Memᴰ.cast (sym (stands T e.sizes.0 e.sizes.1 p l).here) (Memᴰ.map (pos T) ((exact_listed (fact_at T p)).0 d)))
       (λ p m.
       let (f, i, q) = Memᴰ.of_map (pos T) fs m in
-      let same : factAt T p ≡ f = ap (factAt T) (sym q) ∙ e.facts f i in
-      subst⁻¹ (Derives T) same ((exact-listed f).1 i)))
+      let same : fact_at T p ≡ f = ap (fact_at T) (sym q) ∙ e.facts f i in
+      subst⁻¹ (Derives T) same ((exact_listed f).1 i)))
 
   -- so the verdict on the list is the verdict on the least relations
-  pub exact-verdict : {v : Option Witness} → Verdict T (λ f. Memᴰ f fs) v → Verdict T (Derives T) v
-  exact-verdict = verdict-cast (λ f. (exact-listed f).1) (λ f. (exact-listed f).0)
+  pub exact_verdict : {v : Option Witness} → Verdict T (λ f. Memᴰ f fs) v → Verdict T (Derives T) v
+  exact_verdict = verdict_cast (λ f. (exact_listed f).1) (λ f. (exact_listed f).0)

@@ -8,16 +8,16 @@ use mathlib.Core.List.{List, [], ◌∷◌}
 use seplogic.Ra.Ura.{Ura}
 use contract.Running.{tables_of}
 use denote.Enum.Laws as EL
-use Rattle.reader.specs.Places.{leftFrom}
+use Rattle.reader.specs.Places.{left_from}
 use Rattle.reader.specs.Ended.{ended_of}
 use Rattle.reader.specs.declared.Reader.{Reader}
 use Rattle.reader.specs.declared.ends.End.{End}
 use Rattle.reader.specs.contracts.ends.End as E
 use Rattle.reader.proofs.ends.End.TheLaws as E'
-use Rattle.reader.proofs.EndLaws.{ended-left}
-use Rattle.reader.proofs.Walks.{Here, here, At, Walk, by-walk, asks-thin, ends}
-use Rattle.reader.proofs.OwnedReader.{R, typed, slice, Apart, reader-twice, by_bytes}
-use Rattle.reader.proofs.ReaderCalls.{makes-reader}
+use Rattle.reader.proofs.EndLaws.{ended_left}
+use Rattle.reader.proofs.Walks.{Here, here, At, Walk, by_walk, asks_thin, ends}
+use Rattle.reader.proofs.OwnedReader.{R, typed, slice, Apart, reader_twice, by_bytes}
+use Rattle.reader.proofs.ReaderCalls.{makes_reader}
 use Rattle.reader.proofs.Calculus.{named, erased, w64, vint, emp, id⊢, Lft, Share, fact_i, Is, shows, uint_Lawful, u8, usize, RefT, now}
 use Rattle.reader.proofs.Calculus.{ShrSlice, shr_slice_Lawful, alive, Meets, triple_of, cited, ‵, raw, ◌⊛◌, ◌$◌, ◌∵◌, !, qed, move, drop, use0}
 use Rattle.reader.proofs.Calculus.{use1, split, fjoin, peeks, nothing, enter, alloc1, alloc0, params1, pass1, pass0, returns, forget, free1}
@@ -54,8 +54,8 @@ module _ {M : Type 1} (𝓤 : Ura M) (g : Here 𝓤) (κ : Lft) (q : Share) (s :
   r = record { src = s; at = at }
 
   -- what is said of the two numbers, n and m, and of the answer of `ended`
-  says : {n m : ℕ} {t : End} → n ≡ leftFrom (now s) at → m ≡ at → t ≡ ended_of n m → t ≡ ended_of (leftFrom (now s) at) at
-  says {n} {m} e-n e-m e-t = e-t ∙ (ap (λ (k : ℕ). ended_of k m) e-n ∙ ap (ended_of (leftFrom (now s) at)) e-m)
+  says : {n m : ℕ} {t : End} → n ≡ left_from (now s) at → m ≡ at → t ≡ ended_of n m → t ≡ ended_of (left_from (now s) at) at
+  says {n} {m} e-n e-m e-t = e-t ∙ (ap (λ (k : ℕ). ended_of k m) e-n ∙ ap (ended_of (left_from (now s) at)) e-m)
 
   walk : Meets 𝓤 H A reader_at.signature (C #reader·reader-at) (reader_at.spec 𝓤 H A mem run)
       → Meets 𝓤 H A left.signature (C #reader·left) (left.spec 𝓤 H A mem run)
@@ -70,30 +70,30 @@ module _ {M : Type 1} (𝓤 : Ura M) (g : Here 𝓤) (κ : Lft) (q : Share) (s :
       pass1 ! (init ! 10 refl (tt, record { fits = small })) $ pass0 ! $
       -- [_7; …; _6; …; _5; …; _4; …; _3; …; _2; …; _1; …; _0; …; the token; what src and at own]
       -- `reader_at`
-      move ! (16 ∷ 17 ∷ []) $ makes-reader g κ q s at ! known-reader-at
+      move ! (16 ∷ 17 ∷ []) $ makes_reader g κ q s at ! known-reader-at
       (and_then ! (load ! (from ! (stop !)) (look ! 14 refl)) (and_then ! (load ! (from ! (stop !)) (look ! 12 refl)) (no_more !))) (λ u is-r.
       -- [what the reader owns; the token; what src and at own; _7; …; _6; …; _5; …; _4; …; _3; …; _2; …; _1; …; _0; …]
       land ! (from ! (stop !)) (init ! 11 refl (typed W erased κ r u is-r)) $
       assigns ! (of_opd ! (load ! (from ! (stop !)) (look ! 11 refl))) (from ! (stop !)) (init ! 7 refl (typed W erased κ r u is-r)) $
       -- `left`
-      use1 W (‵ ((R κ).own_val r (u ∷ [])) ⊛ ‵ ((R κ).own_val r (u ∷ []))) (reader-twice W κ r u) $ split ! $
+      use1 W (‵ ((R κ).own_val r (u ∷ [])) ⊛ ‵ ((R κ).own_val r (u ∷ []))) (reader_twice W κ r u) $ split ! $
       nothing ! $ move ! (1 ∷ 0 ∷ []) $ fjoin ! $ move ! (2 ∷ 0 ∷ []) $
-      asks-thin g left.ended (left.clauses 𝓤 H A mem run) ! known-left (κ, tt) (q, tt) tt (r, tt) (u ∷ [], tt) tt (id⊢ 𝓤 _)
-      (λ (n : ℕ). n ≡ leftFrom (now s) at) (λ n ws. id⊢ 𝓤 _) (and_then ! (load ! (from ! (stop !)) (look ! 7 refl)) (no_more !)) (λ v n e-n.
+      asks_thin g left.ended (left.clauses 𝓤 H A mem run) ! known-left (κ, tt) (q, tt) tt (r, tt) (u ∷ [], tt) tt (id⊢ 𝓤 _)
+      (λ (n : ℕ). n ≡ left_from (now s) at) (λ n ws. id⊢ 𝓤 _) (and_then ! (load ! (from ! (stop !)) (look ! 7 refl)) (no_more !)) (λ v n e-n.
       -- [what n owns; the token; what the reader owns; what src and at own; _7; …; _6; …; _5; …; _4; …; _3; …; _2; …; _1; …; _0; …]
       peeks ! usize (Is usize) (shows 𝓤 H A usize) n (v ∷ []) (λ is-n.
       land ! (from ! (stop !)) (init ! 10 refl ((uint_Lawful 𝓤 H A W w64).typed n _ is-n).0) $
       assigns ! (of_opd ! (load ! (from ! (stop !)) (look ! 12 refl))) (from ! (stop !)) (init ! 4 refl (typed W erased κ r u is-r)) $
       -- `place`
       nothing ! $ move ! (3 ∷ 0 ∷ []) $ fjoin ! $ move ! (2 ∷ 0 ∷ []) $
-      asks-thin g place.ended (place.clauses 𝓤 H A mem run) ! known-place (κ, tt) (q, tt) tt (r, tt) (u ∷ [], tt) tt (id⊢ 𝓤 _)
+      asks_thin g place.ended (place.clauses 𝓤 H A mem run) ! known-place (κ, tt) (q, tt) tt (r, tt) (u ∷ [], tt) tt (id⊢ 𝓤 _)
       (λ (m : ℕ). m ≡ at) (λ m ws. id⊢ 𝓤 _) (and_then ! (load ! (from ! (stop !)) (look ! 3 refl)) (no_more !)) (λ w m e-m.
       -- [what m owns; the token; what n owns; what src and at own; _7; …; _6; …; _5; …; _4; …; _3; …; _2; …; _1; …; _0; …]
       peeks ! usize (Is usize) (shows 𝓤 H A usize) m (w ∷ []) (λ is_m.
       land ! (from ! (stop !)) (init ! 6 refl ((uint_Lawful 𝓤 H A W w64).typed m _ is_m).0) $
       -- `ended`
       nothing ! $ move ! (1 ∷ 0 ∷ []) $ fjoin ! $ move ! (2 ∷ 0 ∷ []) $ fjoin ! $ use0 W (raw (alive 𝓤 H A ended.signature tt tt)) (id⊢ 𝓤 _) $
-      asks-thin g ended.ended (ended.clauses 𝓤 H A mem run) ! known-ended tt tt tt (n, (m, tt)) (v ∷ [], (w ∷ [], tt)) tt (id⊢ 𝓤 _)
+      asks_thin g ended.ended (ended.clauses 𝓤 H A mem run) ! known-ended tt tt tt (n, (m, tt)) (v ∷ [], (w ∷ [], tt)) tt (id⊢ 𝓤 _)
       (λ (t : End). t ≡ ended_of n m) (λ t ws. id⊢ 𝓤 _)
       (and_then ! (load ! (from ! (stop !)) (look ! 9 refl)) (and_then ! (load ! (from ! (stop !)) (look ! 5 refl)) (no_more !))) (λ z t e-t.
       move ! (1 ∷ []) $ drop ! $
@@ -105,12 +105,12 @@ module _ {M : Type 1} (𝓤 : Ura M) (g : Here 𝓤) (κ : Lft) (q : Share) (s :
       move ! (17 ∷ 18 ∷ []) $ free1 ! $ move ! (15 ∷ 16 ∷ []) $ free1 ! $ move ! (13 ∷ 14 ∷ []) $ free1 ! $ move ! (11 ∷ 12 ∷ []) $ free1 ! $
       move ! (9 ∷ 10 ∷ []) $ free1 ! $ move ! (7 ∷ 8 ∷ []) $ free1 ! $ move ! (5 ∷ 6 ∷ []) $ free1 ! $ move ! (3 ∷ 4 ∷ []) $ free1 ! $ free0 ! $
       ends g ! end-at.ended by_bytes (end-at.clauses 𝓤 H A mem run) y z t (tt, (tt, tt)) (tt, (tt, tt))
-      (fact_i 𝓤 _ (emp 𝓤) (says e-n e-m e-t ∙ ended-left (now s) at)))))))))))))))))
+      (fact_i 𝓤 _ (emp 𝓤) (says e-n e-m e-t ∙ ended_left (now s) at)))))))))))))))))
 
 pub end-at-spec : {M : Type 1} → stated.statement M
 unfolding code.routine tables_of here
 end-at-spec 𝓤 𝓛 𝓜 𝓡 =
-    by-walk 𝓛 𝓜 𝓡 code.env end-at.ended by_bytes (end-at.clauses 𝓛 𝓜.mem 𝓡.run)
+    by_walk 𝓛 𝓜 𝓡 code.env end-at.ended by_bytes (end-at.clauses 𝓛 𝓜.mem 𝓡.run)
     #reader·end-at code.function (code.unfolded 𝓤 𝓛.H 𝓜 𝓡)
     (λ κs qs bounds a h are. walk 𝓤 (here 𝓛 𝓜 𝓡 code.env) κs.0 qs.0 a.0 a.1.0
     (cited 𝓤 𝓛.H (triple_of 𝓛 reader_at.signature (reader_at.spec 𝓛 𝓜.mem 𝓡.run)) 𝓜 𝓡 code.env

@@ -11,9 +11,9 @@ use denote.Enum.Laws as EL
 use Rattle.numbers.specs.contracts.reading.Read as N
 use Rattle.numbers.proofs.reading.Read.TheLaws as N'
 use Rattle.reader.specs.declared.Reader.{Reader}
-use Rattle.reader.proofs.Walks.{Here, here, At, Walk, by-walk, ends}
+use Rattle.reader.proofs.Walks.{Here, here, At, Walk, by_walk, ends}
 use Rattle.reader.proofs.OwnedReader.{typed, slice, Apart, by_bytes}
-use Rattle.reader.proofs.ReaderCalls.{makes-reader, reads-next}
+use Rattle.reader.proofs.ReaderCalls.{makes_reader, reads_next}
 use Rattle.reader.proofs.Calculus.{named, erased, w64, vint, emp, Lft, Share, fact_i, Is, u8, RefT, ShrSlice, shr_slice_Lawful, alive, Meets}
 use Rattle.reader.proofs.Calculus.{triple_of, cited, ‵, raw, ◌$◌, ◌∵◌, !, qed, move, keep, owned, enter, alloc1, alloc0, params1, pass1, pass0}
 use Rattle.reader.proofs.Calculus.{returns, forget, free1, free0, look, init, stop, from, load, addr, of_opd, and_then, no_more, assigns, land}
@@ -52,14 +52,14 @@ module _ {M : Type 1} (𝓤 : Ura M) (g : Here 𝓤) (κ : Lft) (q : Share) (s :
       pass1 ! (init ! 6 refl (tt, record { fits = small })) $ pass0 ! $
       -- [_5; …; _4; …; _3; …; _2; …; _1; …; _0; …; the token; what src and at own]
       -- `reader_at`
-      move ! (12 ∷ 13 ∷ []) $ makes-reader g κ q s at ! known-reader-at
+      move ! (12 ∷ 13 ∷ []) $ makes_reader g κ q s at ! known-reader-at
       (and_then ! (load ! (from ! (stop !)) (look ! 10 refl)) (and_then ! (load ! (from ! (stop !)) (look ! 8 refl)) (no_more !))) (λ u is-r.
       -- [what the reader owns; the token; what src and at own; _5; …; _4; …; _3; …; _2; …; _1; …; _0; …]
       land ! (from ! (stop !)) (init ! 5 refl (typed W erased κ r u is-r)) $
       assigns ! (of_opd ! (load ! (from ! (stop !)) (look ! 5 refl))) (from ! (stop !)) (init ! 7 refl (typed W erased κ r u is-r)) $
       assigns ! (addr ! (from ! (stop !))) (from ! (stop !)) (init ! 3 refl (tt, tt)) $
       -- the reader in _3 is lent to `next`
-      move ! (7 ∷ 0 ∷ 1 ∷ []) $ reads-next g κ q r u l₃ 0 ! known_next (λ a δ. and_then ! (load ! (from ! (stop !)) (look ! 3 refl)) (no_more !))
+      move ! (7 ∷ 0 ∷ 1 ∷ []) $ reads_next g κ q r u l₃ 0 ! known_next (λ a δ. and_then ! (load ! (from ! (stop !)) (look ! 3 refl)) (no_more !))
       (λ v n r' e moved is-n.
       -- [_3; what the reader owns; the token; what src and at own; _5; …; _4; …; what frees _3; _2; …; _1; …; _0; …]
       land ! (from ! (stop !)) (init ! 13 refl ((EL.lawful N.the_type N'.the_laws 𝓤 H A W tt).typed n _ is-n).0) $
@@ -72,7 +72,7 @@ module _ {M : Type 1} (𝓤 : Ura M) (g : Here 𝓤) (κ : Lft) (q : Share) (s :
 pub number-at-spec : {M : Type 1} → stated.statement M
 unfolding code.routine tables_of here
 number-at-spec 𝓤 𝓛 𝓜 𝓡 =
-    by-walk 𝓛 𝓜 𝓡 code.env number_at.ended by_bytes (number_at.clauses 𝓛 𝓜.mem 𝓡.run)
+    by_walk 𝓛 𝓜 𝓡 code.env number_at.ended by_bytes (number_at.clauses 𝓛 𝓜.mem 𝓡.run)
     #reader·number-at code.function (code.unfolded 𝓤 𝓛.H 𝓜 𝓡)
     (λ κs qs bounds a h are. walk 𝓤 (here 𝓛 𝓜 𝓡 code.env) κs.0 qs.0 a.0 a.1.0
     (cited 𝓤 𝓛.H (triple_of 𝓛 reader_at.signature (reader_at.spec 𝓛 𝓜.mem 𝓡.run)) 𝓜 𝓡 code.env

@@ -8,8 +8,8 @@ use seplogic.Ra.Ura.{Ura}
 use contract.Running.{tables_of}
 use Rattle.reader.specs.declared.Reader.{Reader}
 use Rattle.reader.proofs.Reader.TheLaws.{lowered}
-use Rattle.reader.proofs.Walks.{Here, here, At, Walk, by-walk, ends}
-use Rattle.reader.proofs.OwnedReader.{R, slice, Apart, together, bytes-twice, by_bytes}
+use Rattle.reader.proofs.Walks.{Here, here, At, Walk, by_walk, ends}
+use Rattle.reader.proofs.OwnedReader.{R, slice, Apart, together, bytes_twice, by_bytes}
 use Rattle.reader.proofs.Calculus.{named, w64, vint, emp, Lft, Share, fact_i, Is, u8, RefT, ShrSlice, shr_slice_Lawful, alive}
 use Rattle.reader.proofs.Calculus.{‵, raw, ◌⊛◌, ◌$◌, ◌∵◌, !, qed, move, use1, split, enter, alloc1, alloc0, params1, pass1, pass0, returns}
 use Rattle.reader.proofs.Calculus.{forget, free1, free0, look, init, stop, from, load, and_then, no_more, assigns, agg}
@@ -41,7 +41,7 @@ module _ {M : Type 1} (𝓤 : Ura M) (g : Here 𝓤) (κ : Lft) (q : Share) (s :
       returns ! (look ! 4 refl) $ forget ! 0 refl $ forget ! 2 refl $ forget ! 4 refl $
       move ! (4 ∷ 5 ∷ []) $ free1 ! $ move ! (2 ∷ 3 ∷ []) $ free1 ! $ free1 ! $ free0 ! $
       -- [the token; what src and at own]
-      move ! (1 ∷ []) $ use1 W (‵ (Apart κ s at) ⊛ ‵ (Apart κ s at)) (bytes-twice W κ s at) $ split ! $
+      move ! (1 ∷ []) $ use1 W (‵ (Apart κ s at) ⊛ ‵ (Apart κ s at)) (bytes_twice W κ s at) $ split ! $
       use1 W (‵ ((R κ).own_val r (lowered r ∷ []))) (together W κ s at) $ move ! (0 ∷ 2 ∷ []) $
       ends g ! reader_at.ended by_bytes (reader_at.clauses 𝓤 H A mem run) y (lowered r) r (tt, (tt, tt)) (tt, (tt, tt))
       (fact_i 𝓤 _ (emp 𝓤) (refl, refl)))))
@@ -49,6 +49,6 @@ module _ {M : Type 1} (𝓤 : Ura M) (g : Here 𝓤) (κ : Lft) (q : Share) (s :
 pub reader-at-spec : {M : Type 1} → stated.statement M
 unfolding code.routine tables_of here
 reader-at-spec 𝓤 𝓛 𝓜 𝓡 =
-    by-walk 𝓛 𝓜 𝓡 code.env reader_at.ended by_bytes (reader_at.clauses 𝓛 𝓜.mem 𝓡.run)
+    by_walk 𝓛 𝓜 𝓡 code.env reader_at.ended by_bytes (reader_at.clauses 𝓛 𝓜.mem 𝓡.run)
     #reader·reader-at code.function (code.unfolded 𝓤 𝓛.H 𝓜 𝓡)
     (λ κs qs bounds a h are. walk 𝓤 (here 𝓛 𝓜 𝓡 code.env) κs.0 qs.0 a.0 a.1.0 are.0 are.1.0.1)

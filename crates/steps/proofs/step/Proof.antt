@@ -5,10 +5,10 @@ use native.Mathlib.Omega.{arith}
 use borrow.Author.Rules.{rules}
 use Rattle.positions.specs.declared.plan.Plan.{Plan}
 use Rattle.store.specs.declared.rows.Row.{Row}
-use Rattle.positions.specs.Plans.{pair, pFrom, gAt}
-use Rattle.positions.proofs.Places.{g-lt, parts}
+use Rattle.positions.specs.Plans.{pair, p_from, g_at}
+use Rattle.positions.proofs.Places.{g_lt, parts}
 use Rattle.uses.specs.RuleUses.{place_of}
-use Rattle.uses.proofs.PassLaws.{swept-room, and_then, one_at}
+use Rattle.uses.proofs.PassLaws.{swept_room, and_then, one_at}
 use Rattle.steps.proofs.step.Statement.{statement}
 use Rattle.steps.proofs.step.Tie as tie
 
@@ -28,7 +28,7 @@ module _ (c : tie.After-one-arg) where
   r = start.args.r
 
   abbrev row : ℕ
-  row = pFrom s start.args.t start.args.a
+  row = p_from s start.args.t start.args.a
 
   x-is : c.before.before.before.before.p-position.result ≡ place_of s start.args.t start.args.a r
   x-is = let at = c.before.before.before.before in at.p-position.ensures.0 ∙ ap (λ z. row + z) at.before.pair_of.ensures.0
@@ -36,7 +36,7 @@ module _ (c : tie.After-one-arg) where
   y-is : c.before.before.p-position2.result ≡ row + pair s r.u r.v
   y-is = let at = c.before.before in at.p-position2.ensures.0 ∙ ap (λ z. row + z) at.before.pair-of2.ensures.0
 
-  z-is : c.before.g-position.result ≡ gAt s start.args.t r.g r.u
+  z-is : c.before.g-position.result ≡ g_at s start.args.t r.g r.u
   z-is = c.before.g-position.ensures
 
 cast-g : tie.Need-overflow-cast-g
@@ -73,9 +73,9 @@ one-requires-2 : tie.Need-one-requires-2
 one-requires-2 c κs =
     let first = c.before.before.before in
     let (h, t, a, i, room) = (start first.before).pre in
-    let e = swept-room first.one.ensures in
+    let e = swept_room first.one.ensures in
     let x = first.before.before.before.before.before.p-position.ensures.1 in
-    (omega arith, omega (arith, z-is first.before, g-lt h t i.g i.u, parts h))
+    (omega arith, omega (arith, z-is first.before, g_lt h t i.g i.u, parts h))
 
 same_length : tie.Need-same-length
 same_length c = search rules

@@ -10,12 +10,12 @@ use Rattle.positions.specs.declared.plan.Plan.{Plan}
 use Rattle.store.specs.declared.rows.Row as stored
 use Rattle.store.specs.Marking.{room}
 use Rattle.positions.specs.Plans.{Planned}
-use Rattle.store.specs.Reading.{nth, zeroRow}
+use Rattle.store.specs.Reading.{nth, zero_row}
 use Rattle.uses.specs.declared.lines.Pass.{Pass}
 use Rattle.uses.specs.Ranges.{RowIn, EachIn}
 use Rattle.uses.specs.Passing.{Swept}
 use Rattle.uses.specs.RuleUses.{StepUses, StepRowUse}
-use Rattle.uses.proofs.PassLaws.{swept-room, swept_of, upto-none, upto_next}
+use Rattle.uses.proofs.PassLaws.{swept_room, swept_of, upto_none, upto_next}
 use Rattle.steps.proofs.WalkKinds.{Plans, Rows, Passes, row_named, ps, r}
 use Rattle.steps.proofs.WalkReads as reads
 use Rattle.steps.proofs.step_row.Kinds as step-kinds
@@ -29,9 +29,9 @@ use Rattle.steps.proofs.Derivations.{mut, unsigned, lt, mul, add, offset, field,
 use Rattle.steps.proofs.Derivations.{Triple, ltb-true, ltb-false, at_mul, ptr_val, Cx, Life, s_bool, s_ptr, lease, dead, get_row, get, set}
 use Rattle.steps.proofs.Derivations.{sc_here, sslice, whole, Mo, o_at, o_fld, o_int, After, mslice, msleft, set_vals, as_mut, msptr, mslice_owed}
 use Rattle.steps.proofs.Derivations.{reads_owed_len, by_size, len_v, reads_sslice_len, reads_sslice_ptr, v_at, b_at, fix_len, plain_of, Callee}
-use Rattle.steps.proofs.Derivations.{World, u64, n64, v64, bytes, lent, struct_of, ty_of, it, ◌&◌, dAt, mAt, At, gone, over, over-data, like, read}
-use Rattle.steps.proofs.Derivations.{mut-arg, copied, ◌⨾◌, ◌▸◌, after, falls, skips, leaves, returns, blocks, loops, branches, sets, computes}
-use Rattle.steps.proofs.Derivations.{frees, begins, ends, forgets, lends, packs, returned, calls, reads-element, copies, Function, entry}
+use Rattle.steps.proofs.Derivations.{World, u64, n64, v64, bytes, lent, struct_of, ty_of, it, ◌&◌, d_at, m_at, At, gone, over, over_data, like, read}
+use Rattle.steps.proofs.Derivations.{mut_arg, copied, ◌⨾◌, ◌▸◌, after, falls, skips, leaves, returns, blocks, loops, branches, sets, computes}
+use Rattle.steps.proofs.Derivations.{frees, begins, ends, forgets, lends, packs, returned, calls, reads_element, copies, Function, entry}
 use Rattle.steps.proofs.Derivations.{Over, inside, Derived, Left, meets, slice_ty}
 use types.Logic.{Logic}
 
@@ -67,11 +67,11 @@ record Inv (rows : List stored.Row) (s : Plan) (t a : ℕ) (m₀ : List ℕ) (pu
 
 module _ {rows : List stored.Row} {s : Plan} {t a : ℕ} {m₀ : List ℕ} {put : Bool} {b₀ : Pass} where
   begins-so : Inv rows s t a m₀ put b₀ m₀ b₀ 0
-  begins-so = record { upto = omega arith; done = upto-none _ }
+  begins-so = record { upto = omega arith; done = upto_none _ }
 
   module _ {m : List ℕ} {b : Pass} {i : ℕ} (inv : Inv rows s t a m₀ put b₀ m b i) where
     same-room : length m ≡ length m₀
-    same-room = swept-room inv.done
+    same-room = swept_room inv.done
 
     ends_so : length rows ≤ i → Swept (StepUses s t a (nth rows) (length rows)) put b₀ b m₀ m
     ends_so ge = let e : i ≡ length rows = omega (arith, inv.upto) in swept_of (StepUses s t a (nth rows)) e inv.done
@@ -151,20 +151,20 @@ module _ {M : Type 1} {𝓤 : Ura M} (𝓛 : Logic 𝓤) (𝓣 : Tables 𝓤 �
         computes 11 n64 (mul unsigned) (o_at 9 u64 v64) (o_int w64 5) (read w n64, refl) tt (gone w u64) refl (λ u. refl) (λ u. tt) ⨾
         computes 13 s_ptr offset (o_fld 1 (field 0 ∷ []) rows-ref 0 ptr_val) (o_at 11 u64 v64)
         (reads_sslice_ptr 𝓛 R rows-ref 0 0 refl, refl) (read w n64, refl) (gone w ty_ptr) refl (λ u. refl) (λ u. tt) ⨾
-        reads-element Rows 1 9 13 14 0 rows-ref lent_rows (by_size 5) zeroRow it it it (λ i o. at_mul o 5 i) (like w (sslice R rows-ref 0))
+        reads_element Rows 1 9 13 14 0 rows-ref lent_rows (by_size 5) zero_row it it it (λ i o. at_mul o 5 i) (like w (sslice R rows-ref 0))
         (like w (sc_here s_ptr)) (gone w (ty_of Rows)) refl tt refl refl ⨾
         frees 11 u64 (over w n64) ▸ frees 13 ty_ptr (over w s_ptr) ▸
         copies Rows 14 10 it it (copied w Rows) (gone w (ty_of Rows)) refl refl ⨾
-        frees 14 (ty_of Rows) (over-data w Rows) ▸
+        frees 14 (ty_of Rows) (over_data w Rows) ▸
         -- sofar = step_row(s, t, a, r, mem, put, sofar);
         begins 2 _ ▸
         lends bytes 5 15 1 2 mem-ref lent lent-mem 0 it (like w (mslice bytes mem-ref 1)) (gone w lent) refl tt refl refl refl (λ b o. tt) ⨾
         packs bytes (as_mut bytes) 15 16 2 lent lent it (o_fld 5 (field 1 ∷ []) u64 8 (λ v. len_v v.0)) (like w (msptr bytes lent 2))
         (gone w (slice_ty lent)) (reads_owed_len 𝓛 bytes mem-ref 1 2 lent-mem 8 refl, refl) refl refl (λ b o k. tt) ⨾
-        calls step_row (dAt Plans 2 it & v_at 3 it & v_at 4 it & dAt Rows 10 it & mAt bytes 16 lent it & b_at 6 it & dAt Passes 8 it & tt) 8 (2 ∷ [])
-        ((copied w Plans, refl) & (read w n64, refl) & (read w n64, refl) & (copied w Rows, refl) & mut-arg w bytes lent 2 refl
-        ((read w s_bool, refl) & (copied w Passes, refl) & tt)) (over-data w Passes) (tt, tt) refl ⨾
-        frees 10 (ty_of Rows) (over-data w Rows) ▸
+        calls step_row (d_at Plans 2 it & v_at 3 it & v_at 4 it & d_at Rows 10 it & m_at bytes 16 lent it & b_at 6 it & d_at Passes 8 it & tt) 8 (2 ∷ [])
+        ((copied w Plans, refl) & (read w n64, refl) & (read w n64, refl) & (copied w Rows, refl) & mut_arg w bytes lent 2 refl
+        ((read w s_bool, refl) & (copied w Passes, refl) & tt)) (over_data w Passes) (tt, tt) refl ⨾
+        frees 10 (ty_of Rows) (over_data w Rows) ▸
         ends 2 refl ▸
         returned bytes 16 5 1 2 mem-ref lent lent-mem it it (like w (msleft bytes lent))
         (like w (mslice_owed bytes mem-ref 1 2 lent-mem)) refl refl ▸
@@ -173,8 +173,8 @@ module _ {M : Type 1} {𝓤 : Ura M} (𝓛 : Logic 𝓤) (𝓣 : Tables 𝓤 �
         falls tt (computes 9 n64 (add unsigned) (o_at 9 u64 v64) (o_int w64 1) (read w n64, refl) tt (over w n64) refl (λ u. refl) (λ u. tt)))))) (
         -- sofar
         copies Passes 8 0 it it (copied w Passes) (gone w (ty_of Passes)) refl refl ⨾
-        frees 2 (ty_of Plans) (over-data w Plans) ▸ frees 3 u64 (over w n64) ▸ frees 4 u64 (over w n64) ▸ frees 6 ty_bool (over w s_bool) ▸
-        frees 7 (ty_of Passes) (over-data w Passes) ▸ frees 8 (ty_of Passes) (over-data w Passes) ▸ frees 9 u64 (over w n64) ▸
+        frees 2 (ty_of Plans) (over_data w Plans) ▸ frees 3 u64 (over w n64) ▸ frees 4 u64 (over w n64) ▸ frees 6 ty_bool (over w s_bool) ▸
+        frees 7 (ty_of Passes) (over_data w Passes) ▸ frees 8 (ty_of Passes) (over_data w Passes) ▸ frees 9 u64 (over w n64) ▸
         returns tt)
 
   -- What the derivation leaves to show, in the order of the statements. Of the answer c of the call, c.1 is the result, c.2 what the lent

@@ -1,13 +1,13 @@
 -- `training::file` meets its contract: the constant passes the test of the rule, which antt computes once over all 576 entries.
 use mathlib.Core.Path.{refl}
 use Rattle.training.specs.Training.{training}
-use Rattle.training.proofs.TrainingRule.{byRule, byRule-same}
+use Rattle.training.proofs.TrainingRule.{by_rule, by_rule_same}
 use Rattle.training.proofs.file.Statement.{statement}
 use Rattle.training.proofs.file.Tie as tie
 
 returns : tie.Need-returns
-unfolding byRule training
-returns c = byRule-same training _ refl
+unfolding by_rule training
+returns c = by_rule_same training _ refl
 
 pub file-spec : {M : Type 1} → statement M
 file-spec = tie.close (tie.spec returns)

@@ -1,4 +1,4 @@
--- `cells::columns::of_thread` meets its contract: its test is the one of `ofThread`.
+-- `cells::columns::of_thread` meets its contract: its test is the one of `of_thread`.
 use borrow.Author.Tests.{lt-ltb, le-ltb}
 use Rattle.cells.proofs.columns.of_thread.Statement.{statement}
 use Rattle.cells.proofs.columns.of_thread.Tie as tie

@@ -2,7 +2,7 @@
 use mathlib.Core.Path.{refl}
 use native.Mathlib.Omega.{arith}
 use borrow.Author.Rules.{rules}
-use Rattle.cells.proofs.RowLaws.{within-cell, below-cell}
+use Rattle.cells.proofs.RowLaws.{within_cell, below_cell}
 use Rattle.cells.proofs.row.cell.Statement.{statement}
 use Rattle.cells.proofs.row.cell.Tie as tie
 
@@ -36,12 +36,12 @@ enum_told c = search rules
 returns : tie.Need-returns
 returns c =
     let a = c.before.before.before.before.args in
-    within-cell a.at a.read c.before.before.column.given.1 (search rules) c.ranged.ensures
+    within_cell a.at a.read c.before.before.column.given.1 (search rules) c.ranged.ensures
 
 returns-2 : tie.Need-returns-2
 returns-2 c =
     let a = c.before.before.before.before.args in
-    below-cell a.at a.read c.before.before.column2.given.1 (search rules) c.ranged2.ensures
+    below_cell a.at a.read c.before.before.column2.given.1 (search rules) c.ranged2.ensures
 
 returns-3 : tie.Need-returns-3
 returns-3 c = rw c.enum_told.given.1 (refl, omega arith)

@@ -5,13 +5,13 @@ use Prim.Native.Nat.{◌-◌, ◌≤◌}
 use native.Mathlib.Omega.{arith}
 use borrow.Author.Rules.{rules}
 use lib.ListN.{length}
-use Rattle.cells.specs.Stages.{dueFrom}
-use Rattle.cells.proofs.DueLaws.{There, there-within, there-below, due-here, due-skip, due-end}
+use Rattle.cells.specs.Stages.{due_from}
+use Rattle.cells.proofs.DueLaws.{There, there_within, there_below, due_here, due_skip, due_end}
 use Rattle.cells.proofs.row.due_from.Statement.{statement}
 use Rattle.cells.proofs.row.due_from.Tie as tie
 
 abbrev invariant-loop : tie.invariant-loop
-invariant-loop from columns j₀ j = (length columns ≡ 5) × (j ≤ 5) × (dueFrom columns from ≡ dueFrom columns j)
+invariant-loop from columns j₀ j = (length columns ≡ 5) × (j ≤ 5) × (due_from columns from ≡ due_from columns j)
 
 abbrev decreases-loop : tie.decreases-loop
 decreases-loop from columns j₀ j = 5 - j
@@ -31,7 +31,7 @@ enum_told c = search rules
 returns : tie.Need-returns invariant-loop decreases-loop
 returns c =
     let (five, up, same) = c.before.before.before.before.loop.invariant in
-    sym (same ∙ due-here _ _ (omega (arith, five)) (subst There (sym c.enum_told.given.1) (there-within _ _)))
+    sym (same ∙ due_here _ _ (omega (arith, five)) (subst There (sym c.enum_told.given.1) (there_within _ _)))
 
 enum-told-2 : tie.Need-enum-told-2 invariant-loop decreases-loop
 enum-told-2 c = search rules
@@ -39,7 +39,7 @@ enum-told-2 c = search rules
 returns-2 : tie.Need-returns-2 invariant-loop decreases-loop
 returns-2 c =
     let (five, up, same) = c.before.before.before.before.loop.invariant in
-    sym (same ∙ due-here _ _ (omega (arith, five)) (subst There (sym c.enum-told2.given.1) (there-below _)))
+    sym (same ∙ due_here _ _ (omega (arith, five)) (subst There (sym c.enum-told2.given.1) (there_below _)))
 
 enum-told-3 : tie.Need-enum-told-3 invariant-loop decreases-loop
 enum-told-3 c = search rules
@@ -53,12 +53,12 @@ loop-less c = omega arith
 loop-again : tie.Need-loop-preserved invariant-loop decreases-loop
 loop-again c =
     let (five, up, same) = c.before.before.before.before.loop.invariant in
-    (five, omega arith, same ∙ due-skip _ _ (omega (arith, five)) c.enum-told3.given.1)
+    (five, omega arith, same ∙ due_skip _ _ (omega (arith, five)) c.enum-told3.given.1)
 
 returns-3 : tie.Need-returns-3 invariant-loop decreases-loop
 returns-3 c =
     let (five, up, same) = c.before.loop.invariant in
-    sym (same ∙ due-end _ _ (omega (arith, five, c.loop-test.false)) ∙ omega (arith, up, c.loop-test.false))
+    sym (same ∙ due_end _ _ (omega (arith, five, c.loop-test.false)) ∙ omega (arith, up, c.loop-test.false))
 
 pub due-from-spec : {M : Type 1} → statement M
 due-from-spec =

@@ -1,4 +1,4 @@
--- `check_call::answer::reply_of` meets its contract: each arm gives what `replyOf` gives for its case.
+-- `check_call::answer::reply_of` meets its contract: each arm gives what `reply_of` gives for its case.
 use borrow.Author.Rules.{rules}
 use Rattle.check_call.proofs.answer.reply_of.Statement.{statement}
 use Rattle.check_call.proofs.answer.reply_of.Tie as tie

@@ -2,7 +2,7 @@
 use native.Mathlib.Omega.{arith}
 use borrow.Author.Rules.{rules}
 use Rattle.check_call.specs.Checking.{refused, read}
-use Rattle.check_call.proofs.ReadTable.{ReadAs, read-stored, read-refused}
+use Rattle.check_call.proofs.ReadTable.{ReadAs, read_stored, read_refused}
 use Rattle.check_call.proofs.check.check.Statement.{statement}
 use Rattle.check_call.proofs.check.check.Tie as tie
 
@@ -14,7 +14,7 @@ got : (c : tie.After-check-stored-arg) → let r = tables c in let m = r.read_ta
     ReadAs r.before.before.before.before.before.before.before.args.table.now r.read_table.result
     m.0 m.1.0 m.1.1.0 m.1.1.1.0
 got c =
-    read-stored (tables c).read_table.ensures c.before.before.before.before.before.enum_told.given.1
+    read_stored (tables c).read_table.ensures c.before.before.before.before.before.enum_told.given.1
     (omega arith) (omega arith) (omega arith) (omega arith)
 
 read-table-requires : tie.Need-read-table-requires
@@ -38,7 +38,7 @@ returns c =
     read (got a).is (c.before.before.check-stored.ensures (got a).table (got a).stored)
 
 returns-2 : tie.Need-returns-2
-returns-2 c = refused (read-refused c.before.before.before.before.before.read_table.ensures c.before.outcome.given.1)
+returns-2 c = refused (read_refused c.before.before.before.before.before.read_table.ensures c.before.outcome.given.1)
 
 pub check-spec : {M : Type 1} → statement M
 check-spec =

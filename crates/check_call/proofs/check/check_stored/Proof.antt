@@ -7,8 +7,8 @@ use lib.ListN.{length}
 use Rattle.files.specs.Table.{Table}
 use Rattle.positions.specs.Plans.{plan_of}
 use Rattle.check_call.specs.Lent.{Stored}
-use Rattle.check_call.proofs.LentRows.{stored-rows, stored-begins, stored-errors, stored-w, stored-plan, stored-sizes, stored-errors-long}
-use Rattle.check_call.proofs.Outcomes.{w-by, answer-short, answer-over, answer-done}
+use Rattle.check_call.proofs.LentRows.{stored_rows, stored_begins, stored_errors, stored_w, stored_plan, stored_sizes, stored_errors_long}
+use Rattle.check_call.proofs.Outcomes.{w_by, answer_short, answer_over, answer_done}
 use Rattle.check_call.proofs.check.check_stored.Statement.{statement}
 use Rattle.check_call.proofs.check.check_stored.Tie as tie
 
@@ -29,7 +29,7 @@ own : (a : tie.After-run-in-arg) → Of a (start a).requires.0
 own a = (start a).requires.1
 
 plan-is : (a : tie.After-run-in-arg) (T : Table) → Of a T → (plan a).plan-by.result ≡ plan_of T
-plan-is a T st = stored-plan st (plan a).plan-by.ensures.0
+plan-is a T st = stored_plan st (plan a).plan-by.ensures.0
 
 own-plan : (a : tie.After-run-in-arg) → (plan a).plan-by.result ≡ plan_of (start a).requires.0
 own-plan a = plan-is a _ (own a)
@@ -39,8 +39,8 @@ enough : (a : tie.After-run-in-arg) → (plan a).plan-by.result.w ≤ length (st
 enough a =
     omega (
       arith,
-      w-by (start a).requires.0 (own-plan a),
-      stored-w (own a),
+      w_by (start a).requires.0 (own-plan a),
+      stored_w (own a),
       (plan a).before.before.w-of.ensures,
       (plan a).before.if1.false,
     )
@@ -49,10 +49,10 @@ w-of-requires : tie.Need-w-of-requires
 w-of-requires c κs = search rules
 
 returns : tie.Need-returns
-returns c = λ T st. answer-short (c.before.w-of.ensures ∙ stored-w st) c.if1.true
+returns c = λ T st. answer_short (c.before.w-of.ensures ∙ stored_w st) c.if1.true
 
 plan-by-requires : tie.Need-plan-by-requires
-plan-by-requires c κs = stored-sizes c.before.before.before.before.requires.1
+plan-by-requires c κs = stored_sizes c.before.before.before.before.requires.1
 
 cast-start : tie.Need-overflow-cast-start
 cast-start c = search rules
@@ -61,7 +61,7 @@ cast-failed : tie.Need-overflow-cast-failed
 cast-failed c = search rules
 
 run-in-requires : tie.Need-run-in-requires
-run-in-requires c κs = ((_, stored-rows (own c) (own-plan c), stored-begins (own c)), enough c)
+run-in-requires c κs = ((_, stored_rows (own c) (own-plan c), stored_begins (own c)), enough c)
 
 enum-known-count : tie.Need-enum-known-count
 enum-known-count c = search rules
@@ -70,8 +70,8 @@ judge-requires : tie.Need-judge-requires
 judge-requires c κs =
     let r : tie.After-run-in = c.before.before.before.before.before.before.before in
     let a : tie.After-run-in-arg = r.before in (
-      (_, stored-errors (own a) (own-plan a)),
-      stored-errors-long (own a),
+      (_, stored_errors (own a) (own-plan a)),
+      stored_errors_long (own a),
       omega (arith, enough a, r.run_in.auto.1.1.1.1.1.1.1.0),
     )
 
@@ -86,9 +86,9 @@ returns-2 c =
     let r : tie.After-run-in = c.before.before.before.before.before.before.before.before in
     let a : tie.After-run-in-arg = r.before in
     λ T st. let e = plan-is a T st in
-    answer-done T _ _ _ _ st.sound e (enough a)
+    answer_done T _ _ _ _ st.sound e (enough a)
     r.run_in.auto.1.1.1.1.1.1.1.0 r.run_in.ensures.1 c.before.before.before.before.count.given.1
-    (r.run_in.ensures.0 T (stored-rows st e) (stored-begins st)) (c.judge.ensures T (stored-errors st e))
+    (r.run_in.ensures.0 T (stored_rows st e) (stored_begins st)) (c.judge.ensures T (stored_errors st e))
 
 same-length-2 : tie.Need-same-length-2
 same-length-2 c = search rules
@@ -98,8 +98,8 @@ returns-3 c =
     let r : tie.After-run-in = c.before.before.before.before in
     let a : tie.After-run-in-arg = r.before in
     λ T st. let e = plan-is a T st in
-    answer-over T _ _ _ _ st.sound e (enough a) r.run_in.auto.1.1.1.1.1.1.1.0 r.run_in.ensures.1 c.enum_told.given.1
-    (r.run_in.ensures.0 T (stored-rows st e) (stored-begins st))
+    answer_over T _ _ _ _ st.sound e (enough a) r.run_in.auto.1.1.1.1.1.1.1.0 r.run_in.ensures.1 c.enum_told.given.1
+    (r.run_in.ensures.0 T (stored_rows st e) (stored_begins st))
 
 pub check-stored-spec : {M : Type 1} → statement M
 check-stored-spec =

@@ -1,4 +1,4 @@
--- `claim_check_call::answer::claim_reply_of` meets its contract: each arm gives what `claimReplyOf` gives for its case.
+-- `claim_check_call::answer::claim_reply_of` meets its contract: each arm gives what `claim_reply_of` gives for its case.
 use borrow.Author.Rules.{rules}
 use Rattle.claim_check_call.proofs.answer.claim_reply_of.Statement.{statement}
 use Rattle.claim_check_call.proofs.answer.claim_reply_of.Tie as tie

@@ -4,8 +4,8 @@ use Prim.Native.Nat.{◌≤◌}
 use native.Mathlib.Omega.{arith}
 use borrow.Author.Rules.{rules}
 use lib.ListN.{length}
-use Rattle.files.proofs.WLaws.{W-max}
-use Rattle.claim_check_call.proofs.ClaimOutcomes.{answer-accepted, answer-lacking, answer-missing, answer-allowing}
+use Rattle.files.proofs.WLaws.{W_max}
+use Rattle.claim_check_call.proofs.ClaimOutcomes.{answer_accepted, answer_lacking, answer_missing, answer_allowing}
 use Rattle.claim_check_call.proofs.check.check_facts.Statement.{statement}
 use Rattle.claim_check_call.proofs.check.check_facts.Tie as tie
 
@@ -23,7 +23,7 @@ enough a = omega (arith, (start a).requires.3, a.mark-in.auto.1.1.0)
 mark-in-requires : tie.Need-mark-in-requires
 mark-in-requires c κs =
     let (T, ps, l, room) = c.before.before.before.requires in
-    (record { positions = ps; next = l.next; reads = l.reads }, omega (arith, l.wide, W-max T l.stored.sound), room)
+    (record { positions = ps; next = l.next; reads = l.reads }, omega (arith, l.wide, W_max T l.stored.sound), room)
 
 find-requires : tie.Need-find-requires
 find-requires c κs =
@@ -59,7 +59,7 @@ returns : tie.Need-returns
 returns c =
     let f : tie.After-find = c.before.before.before.before in
     let a = marking f in
-    λ T ps l. answer-accepted l (enough a) a.mark-in.ensures (f.find.ensures.0 T l.stored) f.find.ensures.1 c.enum_told.given.1
+    λ T ps l. answer_accepted l (enough a) a.mark-in.ensures (f.find.ensures.0 T l.stored) f.find.ensures.1 c.enum_told.given.1
 
 same-length-2 : tie.Need-same-length-2
 same-length-2 c = search rules
@@ -69,7 +69,7 @@ returns-2 c =
     let arm : tie.After-thread = c.before.before.before.before.before in
     let f : tie.After-find = arm.before.before.before.before in
     let a = marking f in
-    λ T ps l. answer-lacking l (enough a) a.mark-in.ensures (f.find.ensures.0 T l.stored) f.find.ensures.1
+    λ T ps l. answer_lacking l (enough a) a.mark-in.ensures (f.find.ensures.0 T l.stored) f.find.ensures.1
     c.before.before.clear_first.ensures arm.thread.given.1
 
 same-length-3 : tie.Need-same-length-3
@@ -80,7 +80,7 @@ returns-3 c =
     let arm : tie.After-position = c.before.before.before.before.before in
     let f : tie.After-find = arm.before.before.before.before in
     let a = marking f in
-    λ T ps l. answer-missing l (enough a) a.mark-in.ensures (f.find.ensures.0 T l.stored) f.find.ensures.1
+    λ T ps l. answer_missing l (enough a) a.mark-in.ensures (f.find.ensures.0 T l.stored) f.find.ensures.1
     c.before.before.clear-first2.ensures arm.position.given.1
 
 same-length-4 : tie.Need-same-length-4
@@ -91,7 +91,7 @@ returns-4 c =
     let arm : tie.After-row = c.before.before.before.before.before in
     let f : tie.After-find = arm.before.before.before.before in
     let a = marking f in
-    λ T ps l. answer-allowing l (enough a) a.mark-in.ensures (f.find.ensures.0 T l.stored) f.find.ensures.1
+    λ T ps l. answer_allowing l (enough a) a.mark-in.ensures (f.find.ensures.0 T l.stored) f.find.ensures.1
     c.before.before.clear-first3.ensures arm.row.given.1
 
 pub check-facts-spec : {M : Type 1} → statement M

@@ -3,8 +3,8 @@ use mathlib.Core.Path.{◌≡◌, sym, subst, ◌∙◌}
 use borrow.Author.Rules.{rules}
 use lib.ListN.{length, take, drop}
 use lib.Seq.{length-take-le, take_at, drop_at}
-use Rattle.claim_reader.specs.ClaimFile.{claimAt}
-use Rattle.claim_reader.specs.ClaimAnswers.{positionsOf}
+use Rattle.claim_reader.specs.ClaimFile.{claim_at}
+use Rattle.claim_reader.specs.ClaimAnswers.{positions_of}
 use Rattle.claim_reader.specs.Marks.{Marks}
 use Rattle.claim_check_call.proofs.check.mark_in.Statement.{statement}
 use Rattle.claim_check_call.proofs.check.mark_in.Tie as tie
@@ -36,7 +36,7 @@ returns c =
     let r = drop a.w a.mem.now in
     let e = call.mark-claim.auto.1.1.0 ∙ part-long call.before in
     record {
-      marks = subst (Marks a.w (positionsOf (claimAt a.w a.claim.now))) (sym (take_at l r a.w e)) call.mark-claim.ensures;
+      marks = subst (Marks a.w (positions_of (claim_at a.w a.claim.now))) (sym (take_at l r a.w e)) call.mark-claim.ensures;
       rest = drop_at l r a.w e;
     }
 

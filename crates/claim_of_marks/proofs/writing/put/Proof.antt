@@ -2,7 +2,7 @@
 use borrow.Author.Rules.{rules}
 use native.Mathlib.Omega.{arith}
 use mathlib.Core.Path.{sym, ◌∙◌}
-use Rattle.numbers.proofs.WritingLaws.{put-room}
+use Rattle.numbers.proofs.WritingLaws.{put_room}
 use Rattle.claim_of_marks.proofs.writing.put.Statement.{statement}
 use Rattle.claim_of_marks.proofs.writing.put.Tie as tie
 
@@ -19,7 +19,7 @@ returns : tie.Need-returns
 returns c =
     let called = c.before.before in
     let a = called.before.before.before.args in
-    let wrote = put-room a.space.now a.at a.value (omega arith) (omega arith) in
+    let wrote = put_room a.space.now a.at a.value (omega arith) (omega arith) in
     let e = called.put-number.ensures in
     record { bytes = e.1 ∙ sym wrote.1; next = e.0 ∙ sym wrote.0 }
 

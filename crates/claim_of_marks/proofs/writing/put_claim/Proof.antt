@@ -2,7 +2,7 @@
 -- claim is the room for each.
 use borrow.Author.Rules.{rules}
 use native.Mathlib.Omega.{arith}
-use Rattle.claim_of_marks.proofs.WritingLoops.{totals-count, totals-width, totals-small, totals-claim, claim-put}
+use Rattle.claim_of_marks.proofs.WritingLoops.{totals_count, totals_width, totals_small, totals_claim, claim_put}
 use Rattle.claim_of_marks.proofs.writing.put_claim.Statement.{statement}
 use Rattle.claim_of_marks.proofs.writing.put_claim.Tie as tie
 
@@ -10,12 +10,12 @@ totals-of-requires : tie.Need-totals-of-requires
 totals-of-requires c κs = search rules
 
 put-requires : tie.Need-put-requires
-put-requires c κs = omega (arith, totals-claim _ _ c.before.totals-of.ensures)
+put-requires c κs = omega (arith, totals_claim _ _ c.before.totals-of.ensures)
 
 put-requires-2 : tie.Need-put-requires-2
 put-requires-2 c κs =
     let sizes = c.before.before.before.before.before.totals-of in
-    omega (arith, totals-claim _ _ sizes.ensures, totals-small _ _ sizes.ensures, c.before.before.before.put.ensures.next)
+    omega (arith, totals_claim _ _ sizes.ensures, totals_small _ _ sizes.ensures, c.before.before.before.put.ensures.next)
 
 put-positions-requires : tie.Need-put-positions-requires
 put-positions-requires c κs =
@@ -25,7 +25,7 @@ put-positions-requires c κs =
     let start = first.before.before.before.before.before in (
       start.requires.0,
       start.requires.1,
-      omega (arith, totals-claim _ _ sizes.ensures, totals-width _ _ sizes.ensures, first.put.ensures.next, second.put2.ensures.next),
+      omega (arith, totals_claim _ _ sizes.ensures, totals_width _ _ sizes.ensures, first.put.ensures.next, second.put2.ensures.next),
     )
 
 same_length : tie.Need-same-length
@@ -36,8 +36,8 @@ returns c =
     let third = c.before.before in
     let second = third.before.before.before.before in
     let first = second.before.before.before.before in
-    let counted = totals-count _ _ first.before.before.totals-of.ensures in
-    claim-put _ first.put.ensures (rw counted at second.put2.ensures) third.put-positions.ensures
+    let counted = totals_count _ _ first.before.before.totals-of.ensures in
+    claim_put _ first.put.ensures (rw counted at second.put2.ensures) third.put-positions.ensures
 
 pub put-claim-spec : {M : Type 1} → statement M
 put-claim-spec =

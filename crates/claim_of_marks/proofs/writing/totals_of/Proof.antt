@@ -3,7 +3,7 @@ use borrow.Author.Rules.{rules}
 use Prim.Native.Nat.{◌-◌}
 use native.Mathlib.Omega.{arith}
 use Rattle.store.proofs.NextLaws.{next_past}
-use Rattle.claim_of_marks.proofs.WritingLoops.{Sizing, size-start, size_small, size-more, size-end}
+use Rattle.claim_of_marks.proofs.WritingLoops.{Sizing, size_start, size_small, size_more, size_end}
 use Rattle.claim_of_marks.proofs.writing.totals_of.Statement.{statement}
 use Rattle.claim_of_marks.proofs.writing.totals_of.Tie as tie
 
@@ -17,7 +17,7 @@ next-mark-requires : tie.Need-next-mark-requires invariant-loop decreases-loop
 next-mark-requires c κs = search rules
 
 loop-holds : tie.Need-loop-init invariant-loop decreases-loop
-loop-holds c = size-start c.next-mark.ensures
+loop-holds c = size_start c.next-mark.ensures
 
 sub-width : tie.Need-overflow-sub-width invariant-loop decreases-loop
 sub-width c = omega (arith, size_small c.before.loop.invariant c.loop-test.true)
@@ -45,10 +45,10 @@ loop-less c = omega (arith, next_past (omega arith) c.next-mark2.ensures)
 
 loop-again : tie.Need-loop-preserved invariant-loop decreases-loop
 loop-again c =
-    size-more c.before.before.before.loop.invariant c.before.before.loop-test.true c.before.width.ensures c.next-mark2.ensures
+    size_more c.before.before.before.loop.invariant c.before.before.loop-test.true c.before.width.ensures c.next-mark2.ensures
 
 returns : tie.Need-returns invariant-loop decreases-loop
-returns c = size-end c.before.loop.invariant c.loop-test.false
+returns c = size_end c.before.loop.invariant c.loop-test.false
 
 pub totals-of-spec : {M : Type 1} → statement M
 totals-of-spec =

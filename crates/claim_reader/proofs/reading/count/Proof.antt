@@ -2,8 +2,8 @@
 use borrow.Author.Rules.{rules}
 use mathlib.Core.Path.{sym, ap, ◌∙◌}
 use Rattle.numbers.specs.Reading.{read_of}
-use Rattle.numbers.proofs.ReadingLaws.{read-got, read-bad}
-use Rattle.claim_reader.proofs.PositionLaws.{count-after, count-bad}
+use Rattle.numbers.proofs.ReadingLaws.{read_got, read_bad}
+use Rattle.claim_reader.proofs.PositionLaws.{count_after, count_bad}
 use Rattle.claim_reader.proofs.reading.count.Statement.{statement}
 use Rattle.claim_reader.proofs.reading.count.Tie as tie
 
@@ -25,14 +25,14 @@ enum-known-refusal c = search rules
 returns : tie.Need-returns
 returns c =
     let arm = c.before.before in
-    let was = read-got _ _ _ (sym arm.next.given.1 ∙ arm.before.before.version.ensures) in
-    c.field.ensures ∙ sym (ap read_of (count-after _ _ was))
+    let was = read_got _ _ _ (sym arm.next.given.1 ∙ arm.before.before.version.ensures) in
+    c.field.ensures ∙ sym (ap read_of (count_after _ _ was))
 
 returns-2 : tie.Need-returns-2
 returns-2 c =
     let arm = c.before in
-    let was = read-bad _ _ (sym arm.refusal.given.1 ∙ arm.before.before.version.ensures) in
-    sym (ap read_of (count-bad _ _ was))
+    let was = read_bad _ _ (sym arm.refusal.given.1 ∙ arm.before.before.version.ensures) in
+    sym (ap read_of (count_bad _ _ was))
 
 pub count_spec : {M : Type 1} → statement M
 count_spec =

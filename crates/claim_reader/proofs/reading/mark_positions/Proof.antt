@@ -4,9 +4,9 @@ use borrow.Author.Rules.{rules}
 use Prim.Native.Nat.{◌-◌}
 use native.Mathlib.Omega.{arith}
 use mathlib.Core.Path.{sym, ◌∙◌}
-use Rattle.numbers.proofs.ReadingLaws.{read-got, read-bad}
-use Rattle.claim_reader.proofs.PositionLaws.{position-got}
-use Rattle.claim_reader.proofs.ReadingLoops.{Marking, mark-start, mark-more, mark-bad, mark-end}
+use Rattle.numbers.proofs.ReadingLaws.{read_got, read_bad}
+use Rattle.claim_reader.proofs.PositionLaws.{position_got}
+use Rattle.claim_reader.proofs.ReadingLoops.{Marking, mark_start, mark_more, mark_bad, mark_end}
 use Rattle.claim_reader.proofs.reading.mark_positions.Statement.{statement}
 use Rattle.claim_reader.proofs.reading.mark_positions.Tie as tie
 
@@ -17,7 +17,7 @@ abbrev decreases-loop : tie.decreases-loop
 decreases-loop src at count w mem₀ p₀ i₀ least₀ last₀ mem p i least last = count - i
 
 loop-holds : tie.Need-loop-init invariant-loop decreases-loop
-loop-holds c = mark-start c.before.before.requires.0.2
+loop-holds c = mark_start c.before.before.requires.0.2
 
 position-requires : tie.Need-position-requires invariant-loop decreases-loop
 position-requires c κs = c.before.loop.invariant.within
@@ -34,8 +34,8 @@ same_length c = c.before.before.before.before.loop.invariant.long
 returns : tie.Need-returns invariant-loop decreases-loop
 returns c =
     let called = c.before.before in
-    let was = read-bad _ _ (sym c.enum_told.given.1 ∙ called.position.ensures) in
-    mark-bad called.before.before.loop.invariant called.before.loop-test.true was
+    let was = read_bad _ _ (sym c.enum_told.given.1 ∙ called.position.ensures) in
+    mark_bad called.before.before.loop.invariant called.before.loop-test.true was
 
 cast-put-mark : tie.Need-overflow-cast-put-mark invariant-loop decreases-loop
 cast-put-mark c = search rules
@@ -43,8 +43,8 @@ cast-put-mark c = search rules
 put-mark-requires : tie.Need-put-mark-requires invariant-loop decreases-loop
 put-mark-requires c κs =
     let called = c.before.before.before.before in
-    let was = read-got _ _ _ (sym c.before.before.value.given.1 ∙ called.position.ensures) in
-    omega (arith, (position-got _ _ _ _ _ _ _ was).below, called.before.before.loop.invariant.long)
+    let was = read_got _ _ _ (sym c.before.before.value.given.1 ∙ called.position.ensures) in
+    omega (arith, (position_got _ _ _ _ _ _ _ was).below, called.before.before.loop.invariant.long)
 
 add-i : tie.Need-overflow-add-i invariant-loop decreases-loop
 add-i c = omega arith
@@ -56,14 +56,14 @@ loop-again : tie.Need-loop-preserved invariant-loop decreases-loop
 loop-again c =
     let arm = c.before.before.before.before.before in
     let called = arm.before.before in
-    let was = read-got _ _ _ (sym arm.value.given.1 ∙ called.position.ensures) in
-    mark-more called.before.before.loop.invariant called.before.loop-test.true was c.before.before.put-mark.ensures
+    let was = read_got _ _ _ (sym arm.value.given.1 ∙ called.position.ensures) in
+    mark_more called.before.before.loop.invariant called.before.loop-test.true was c.before.before.put-mark.ensures
 
 same-length-2 : tie.Need-same-length-2 invariant-loop decreases-loop
 same-length-2 c = c.before.loop.invariant.long
 
 returns-2 : tie.Need-returns-2 invariant-loop decreases-loop
-returns-2 c = mark-end c.before.loop.invariant c.loop-test.false
+returns-2 c = mark_end c.before.loop.invariant c.loop-test.false
 
 pub mark-positions-spec : {M : Type 1} → statement M
 mark-positions-spec =

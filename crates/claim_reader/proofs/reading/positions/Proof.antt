@@ -3,8 +3,8 @@ use borrow.Author.Rules.{rules}
 use Prim.Native.Nat.{◌-◌}
 use native.Mathlib.Omega.{arith}
 use mathlib.Core.Path.{sym, ◌∙◌}
-use Rattle.numbers.proofs.ReadingLaws.{read-got, read-bad}
-use Rattle.claim_reader.proofs.ReadingLoops.{Reading, read-start, read_more, read-refused, read-end}
+use Rattle.numbers.proofs.ReadingLaws.{read_got, read_bad}
+use Rattle.claim_reader.proofs.ReadingLoops.{Reading, read_start, read_more, read_refused, read_end}
 use Rattle.claim_reader.proofs.reading.positions.Statement.{statement}
 use Rattle.claim_reader.proofs.reading.positions.Tie as tie
 
@@ -15,7 +15,7 @@ abbrev decreases-loop : tie.decreases-loop
 decreases-loop src at count w p₀ i₀ least₀ last₀ p i least last = count - i
 
 loop-holds : tie.Need-loop-init invariant-loop decreases-loop
-loop-holds c = read-start
+loop-holds c = read_start
 
 position-requires : tie.Need-position-requires invariant-loop decreases-loop
 position-requires c κs = c.before.loop.invariant.within
@@ -29,8 +29,8 @@ enum-known-refusal c = search rules
 returns : tie.Need-returns invariant-loop decreases-loop
 returns c =
     let called = c.before.before.before in
-    let was = read-bad _ _ (sym c.before.refusal.given.1 ∙ called.position.ensures) in
-    read-refused called.before.before.loop.invariant called.before.loop-test.true was
+    let was = read_bad _ _ (sym c.before.refusal.given.1 ∙ called.position.ensures) in
+    read_refused called.before.before.loop.invariant called.before.loop-test.true was
 
 add-i : tie.Need-overflow-add-i invariant-loop decreases-loop
 add-i c = omega arith
@@ -41,11 +41,11 @@ loop-less c = omega arith
 loop-again : tie.Need-loop-preserved invariant-loop decreases-loop
 loop-again c =
     let called = c.before.before.before in
-    let was = read-got _ _ _ (sym c.before.value.given.1 ∙ called.position.ensures) in
+    let was = read_got _ _ _ (sym c.before.value.given.1 ∙ called.position.ensures) in
     read_more called.before.before.loop.invariant called.before.loop-test.true was
 
 returns-2 : tie.Need-returns-2 invariant-loop decreases-loop
-returns-2 c = read-end c.before.loop.invariant c.loop-test.false
+returns-2 c = read_end c.before.loop.invariant c.loop-test.false
 
 pub positions-spec : {M : Type 1} → statement M
 positions-spec =

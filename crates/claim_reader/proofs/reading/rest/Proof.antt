@@ -1,6 +1,6 @@
 -- `claim_reader::reading::rest` meets its contract: the end of the file after the positions tells which case of `rest_at` holds.
 use borrow.Author.Rules.{rules}
-use Rattle.claim_reader.proofs.ClaimLaws.{rest_read, rest-refused}
+use Rattle.claim_reader.proofs.ClaimLaws.{rest_read, rest_refused}
 use Rattle.claim_reader.proofs.reading.rest.Statement.{statement}
 use Rattle.claim_reader.proofs.reading.rest.Tie as tie
 
@@ -24,7 +24,7 @@ returns c =
 returns-2 : tie.Need-returns-2
 returns-2 c =
     let e : tie.After-end-after = c.before.before.before in
-    rest-refused _ _ _ _ e.before.positions.ensures e.end_after.ensures c.before.refusal.given.1
+    rest_refused _ _ _ _ e.before.positions.ensures e.end_after.ensures c.before.refusal.given.1
 
 pub rest-spec : {M : Type 1} → statement M
 rest-spec =

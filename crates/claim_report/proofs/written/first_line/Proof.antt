@@ -1,7 +1,7 @@
 -- `claim_report::written::first_line` meets its contract: a claim is written if the answer's number is 0.
 use borrow.Author.Rules.{rules}
-use Rattle.report.proofs.AnswerLaws.{reply-done, reply-refused}
-use Rattle.claim_write_call.specs.Answers.{writeReplyOf}
+use Rattle.report.proofs.AnswerLaws.{reply_done, reply_refused}
+use Rattle.claim_write_call.specs.Answers.{write_reply_of}
 use Rattle.claim_report.proofs.written.first_line.Statement.{statement}
 use Rattle.claim_report.proofs.written.first_line.Tie as tie
 
@@ -17,7 +17,7 @@ facts-line-requires c κs = search rules
 returns : tie.Need-returns
 returns c =
     let told = c.before.before.before.before in
-    reply-done (writeReplyOf told.before.args.answer) told.write-reply-of.ensures c.before.before.if1.true c.facts-line.ensures
+    reply_done (write_reply_of told.before.args.answer) told.write-reply-of.ensures c.before.before.if1.true c.facts-line.ensures
 
 refused-line-requires : tie.Need-refused-line-requires
 refused-line-requires c κs = search rules
@@ -25,7 +25,7 @@ refused-line-requires c κs = search rules
 returns-2 : tie.Need-returns-2
 returns-2 c =
     let told = c.before.before.before.before in
-    reply-refused (writeReplyOf told.before.args.answer) told.write-reply-of.ensures c.before.before.if1.false
+    reply_refused (write_reply_of told.before.args.answer) told.write-reply-of.ensures c.before.before.if1.false
     c.refused-line.ensures
 
 pub first-line-spec : {M : Type 1} → statement M

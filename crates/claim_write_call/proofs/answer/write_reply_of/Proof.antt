@@ -1,4 +1,4 @@
--- `claim_write_call::answer::write_reply_of` meets its contract: each arm gives what `writeReplyOf` gives for its case.
+-- `claim_write_call::answer::write_reply_of` meets its contract: each arm gives what `write_reply_of` gives for its case.
 use borrow.Author.Rules.{rules}
 use Rattle.claim_write_call.proofs.answer.write_reply_of.Statement.{statement}
 use Rattle.claim_write_call.proofs.answer.write_reply_of.Tie as tie

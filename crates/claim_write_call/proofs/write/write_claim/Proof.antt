@@ -1,7 +1,7 @@
 -- `claim_write_call::write::write_claim` meets its contract: a check that is not done is passed on, and of a finished one the marks are written.
 use borrow.Author.Rules.{rules}
 use Rattle.claim_write_call.specs.ClaimWriting.{refused, short, over}
-use Rattle.claim_write_call.proofs.WritingStages.{check-w, marks-written}
+use Rattle.claim_write_call.proofs.WritingStages.{check_w, marks_written}
 use Rattle.claim_write_call.proofs.write.write_claim.Statement.{statement}
 use Rattle.claim_write_call.proofs.write.write_claim.Tie as tie
 
@@ -19,7 +19,7 @@ write-marked-requires c κs =
     let room = c.before.before in
     let told = room.before.before in
     let checked = told.before.before.before.before in
-    check-w (rw told.count.given.1 at checked.check.ensures) room.w-of-table.ensures
+    check_w (rw told.count.given.1 at checked.check.ensures) room.w-of-table.ensures
 
 enum-known-refusal : tie.Need-enum-known-refusal
 enum-known-refusal c = search rules
@@ -42,7 +42,7 @@ returns c =
     let room = called.before.before.before in
     let told = room.before.before in
     let checked = told.before.before.before.before in
-    marks-written (rw told.count.given.1 at checked.check.ensures) room.w-of-table.ensures called.write-marked.ensures
+    marks_written (rw told.count.given.1 at checked.check.ensures) room.w-of-table.ensures called.write-marked.ensures
 
 same-length-3 : tie.Need-same-length-3
 same-length-3 c = search rules

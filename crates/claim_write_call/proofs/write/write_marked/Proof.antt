@@ -2,7 +2,7 @@
 -- claim put.
 use borrow.Author.Rules.{rules}
 use native.Mathlib.Omega.{arith}
-use Rattle.claim_write_call.proofs.WritingStages.{marks-no-room, marks-put}
+use Rattle.claim_write_call.proofs.WritingStages.{marks_no_room, marks_put}
 use Rattle.claim_write_call.proofs.write.write_marked.Statement.{statement}
 use Rattle.claim_write_call.proofs.write.write_marked.Tie as tie
 
@@ -19,7 +19,7 @@ returns : tie.Need-returns
 returns c =
     let called = c.before.before in
     let asked = called.before.before in
-    marks-no-room asked.before.claim-width.ensures asked.if1.true called.clear_first.ensures
+    marks_no_room asked.before.claim-width.ensures asked.if1.true called.clear_first.ensures
 
 put-claim-requires : tie.Need-put-claim-requires
 put-claim-requires c κs = search rules
@@ -34,7 +34,7 @@ returns-2 : tie.Need-returns-2
 returns-2 c =
     let called = c.before.before in
     let asked = called.before.before.before in
-    marks-put (omega (arith, asked.before.claim-width.ensures, asked.if1.false)) called.put-claim.ensures
+    marks_put (omega (arith, asked.before.claim-width.ensures, asked.if1.false)) called.put-claim.ensures
 
 pub write-marked-spec : {M : Type 1} → statement M
 write-marked-spec =

@@ -5,13 +5,13 @@ use native.Mathlib.Omega.{arith}
 use borrow.Author.Rules.{rules}
 use borrow.Author.Tests.{not-true}
 use Rattle.store.specs.Marking.{SomeIn}
-use Rattle.positions.specs.Plans.{qFrom}
+use Rattle.positions.specs.Plans.{q_from}
 use Rattle.store.proofs.MarkLaws.{is_false}
-use Rattle.positions.proofs.Places.{q-stretches, q-stretch}
+use Rattle.positions.proofs.Places.{q_stretches, q_stretch}
 use Rattle.uses.specs.Uses.{Upto, Either}
 use Rattle.uses.specs.RuleUses.{CallUse, MovedFrom}
-use Rattle.uses.proofs.PassLaws.{swept-room, swept_of, and_then}
-use Rattle.engine.proofs.EmptyStretches.{frame-empty}
+use Rattle.uses.proofs.PassLaws.{swept_room, swept_of, and_then}
+use Rattle.engine.proofs.EmptyStretches.{frame_empty}
 use Rattle.engine.proofs.q_facts.frame.Statement.{statement}
 use Rattle.engine.proofs.q_facts.frame.Tie as tie
 
@@ -21,11 +21,11 @@ module _ (c : tie.After-q-from) where
   start = c.before.before
 
   y-is : c.q-from.result + start.args.f * start.args.s.k
-      ≡ qFrom start.args.s start.args.t start.args.a + start.args.f * start.args.s.k
+      ≡ q_from start.args.s start.args.t start.args.a + start.args.f * start.args.s.k
   y-is = ap (λ z. z + start.args.f * start.args.s.k) c.q-from.ensures
 
   stretch : (c.q-from.result + start.args.f * start.args.s.k + start.args.s.k ≤ start.args.s.w) × (start.args.s.w ≤ 2360320)
-  stretch = let (h, t, a, f, room) = start.pre in (omega (arith, c.q-from.ensures, q-stretches h t a, q-stretch h f), h.w-max)
+  stretch = let (h, t, a, f, room) = start.pre in (omega (arith, c.q-from.ensures, q_stretches h t a, q_stretch h f), h.w_max)
 
 q-from-requires : tie.Need-q-from-requires
 q-from-requires c κs = search rules
@@ -46,7 +46,7 @@ returns : tie.Need-returns
 returns c =
     let at = c.before.before.before.before in
     let a = (start at).args in
-    frame-empty a.mem.now (start at).requires.0 a.t a.a a.f _
+    frame_empty a.mem.now (start at).requires.0 a.t a.a a.f _
     (subst (λ y. SomeIn a.mem.now y a.s.k → ⊥) (y-is at)
     (is_false _ c.before.some.ensures (not-true c.before.some.result c.if1.true)))
 
@@ -61,7 +61,7 @@ guarantees-requires c κs =
     let called = c.before.before.before in
     let at = called.before.before.before.before.before.before in
     let (h, t, a, f, room) = (start at).requires in
-    (h, (stretch at).0, omega (arith, swept-room called.calls.ensures))
+    (h, (stretch at).0, omega (arith, swept_room called.calls.ensures))
 
 same-length-2 : tie.Need-same-length-2
 same-length-2 c = search rules

@@ -6,9 +6,9 @@ use borrow.Author.Rules.{rules}
 use Rattle.uses.specs.Uses.{Upto}
 use Rattle.uses.specs.Passing.{Swept}
 use Rattle.uses.specs.AllUses.{QStretches}
-use Rattle.uses.proofs.PassLaws.{swept-room, swept_of, upto-none, upto_next, upto-spent}
+use Rattle.uses.proofs.PassLaws.{swept_room, swept_of, upto_none, upto_next, upto_spent}
 use Rattle.engine.proofs.EmptyStretches.{no_frames}
-use Rattle.uses.proofs.StretchNumbers.{stretches-small}
+use Rattle.uses.proofs.StretchNumbers.{stretches_small}
 use Rattle.engine.proofs.q_facts.q_facts.Statement.{statement}
 use Rattle.engine.proofs.q_facts.q_facts.Tie as tie
 
@@ -27,27 +27,27 @@ returns c =
     no_frames entry.args.mem.now entry.requires.0 entry.args.counts entry.requires.1 c.if1.true _
 
 mul-last : tie.Need-overflow-mul-last invariant-loop decreases-loop
-mul-last c = omega (arith, stretches-small c.before.before.before.before.before.requires.0)
+mul-last c = omega (arith, stretches_small c.before.before.before.before.before.requires.0)
 
 loop-holds : tie.Need-loop-init invariant-loop decreases-loop
-loop-holds c = (omega arith, upto-none _)
+loop-holds c = (omega arith, upto_none _)
 
 same_length : tie.Need-same-length invariant-loop decreases-loop
-same_length c = swept-room c.before.before.before.loop.invariant.1
+same_length c = swept_room c.before.before.before.loop.invariant.1
 
 returns-2 : tie.Need-returns-2 invariant-loop decreases-loop
-returns-2 c = let (le, swept) = c.before.before.before.loop.invariant in upto-spent _ le c.if2.true swept
+returns-2 c = let (le, swept) = c.before.before.before.loop.invariant in upto_spent _ le c.if2.true swept
 
 q-stretches-requires : tie.Need-q-stretches-requires invariant-loop decreases-loop
 q-stretches-requires c κs =
     let test = c.before.before.before in
     let (plan, pops, room) = (start test.before).pre in
-    (plan, pops, test.loop-test.true, omega (arith, swept-room test.before.loop.invariant.1))
+    (plan, pops, test.loop-test.true, omega (arith, swept_room test.before.loop.invariant.1))
 
 add-i : tie.Need-overflow-add-i invariant-loop decreases-loop
 add-i c =
     let at = c.before.before.before.before.before.before in
-    omega (arith, at.loop-test.true, stretches-small (start at.before).pre.0)
+    omega (arith, at.loop-test.true, stretches_small (start at.before).pre.0)
 
 loop-less : tie.Need-loop-smaller invariant-loop decreases-loop
 loop-less c = search rules
@@ -58,7 +58,7 @@ loop-again c =
     (omega arith, upto_next _ last.before.before.before.before.before.loop.invariant.1 last.q-stretches.ensures)
 
 same-length-2 : tie.Need-same-length-2 invariant-loop decreases-loop
-same-length-2 c = swept-room c.before.loop.invariant.1
+same-length-2 c = swept_room c.before.loop.invariant.1
 
 returns-3 : tie.Need-returns-3 invariant-loop decreases-loop
 returns-3 c =

@@ -3,9 +3,9 @@ use native.Mathlib.Omega.{arith}
 use borrow.Author.Rules.{rules}
 use borrow.Author.Tests.{not-true}
 use Rattle.store.proofs.MarkLaws.{is_false}
-use Rattle.uses.proofs.PassLaws.{swept-room, and_then}
-use Rattle.uses.proofs.StretchNumbers.{k-pos, frames_small, stretch-thread, stretch-pair, q_room}
-use Rattle.engine.proofs.EmptyStretches.{q-stretches-empty}
+use Rattle.uses.proofs.PassLaws.{swept_room, and_then}
+use Rattle.uses.proofs.StretchNumbers.{k_pos, frames_small, stretch_thread, stretch_pair, q_room}
+use Rattle.engine.proofs.EmptyStretches.{q_stretches_empty}
 use Rattle.engine.proofs.q_facts.q_stretches.Statement.{statement}
 use Rattle.engine.proofs.q_facts.q_stretches.Tie as tie
 
@@ -17,10 +17,10 @@ mul-n : tie.Need-overflow-mul-n
 mul-n c = let (plan, pops, i, room) = c.before.before.before.requires in omega (arith, frames_small plan)
 
 mul-some : tie.Need-overflow-mul-some
-mul-some c = let (plan, pops, i, room) = c.before.before.before.before.requires in omega (arith, q_room plan i, plan.w-max)
+mul-some c = let (plan, pops, i, room) = c.before.before.before.before.requires in omega (arith, q_room plan i, plan.w_max)
 
 add-some : tie.Need-overflow-add-some
-add-some c = let (plan, pops, i, room) = (start c).requires in omega (arith, q_room plan i, plan.w-max)
+add-some c = let (plan, pops, i, room) = (start c).requires in omega (arith, q_room plan i, plan.w_max)
 
 some-requires : tie.Need-some-requires
 some-requires c κs = let (plan, pops, i, room) = (start c).requires in omega (arith, q_room plan i)
@@ -32,25 +32,25 @@ returns : tie.Need-returns
 returns c =
     let at = c.before in
     let (plan, pops, i, room) = (start at.before).requires in
-    q-stretches-empty (start at.before).args.mem.now plan (start at.before).args.counts pops i _
+    q_stretches_empty (start at.before).args.mem.now plan (start at.before).args.counts pops i _
     (is_false _ at.some.ensures (not-true at.some.result c.if1.true))
 
 div-t : tie.Need-nonzero-div-t
-div-t c = let (plan, pops, i, room) = (start c.before.before.before).requires in omega (arith, k-pos plan)
+div-t c = let (plan, pops, i, room) = (start c.before.before.before).requires in omega (arith, k_pos plan)
 
 rem-a : tie.Need-nonzero-rem-a
-rem-a c = let (plan, pops, i, room) = (start c.before.before.before.before).requires in omega (arith, k-pos plan)
+rem-a c = let (plan, pops, i, room) = (start c.before.before.before.before).requires in omega (arith, k_pos plan)
 
 frames-requires : tie.Need-frames-requires
 frames-requires c κs =
     let (plan, pops, i, room) = (start c.before.before.before.before.before).requires in
-    (plan, stretch-thread plan i, stretch-pair plan i, room)
+    (plan, stretch_thread plan i, stretch_pair plan i, room)
 
 rows-of-requires : tie.Need-rows-of-requires
 rows-of-requires c κs =
     let framed = c.before.before.before in
     let (plan, pops, i, room) = (start framed.before.before.before.before.before.before).requires in
-    (plan, stretch-thread plan i, stretch-pair plan i, pops, omega (arith, swept-room framed.frames.ensures))
+    (plan, stretch_thread plan i, stretch_pair plan i, pops, omega (arith, swept_room framed.frames.ensures))
 
 same-length-2 : tie.Need-same-length-2
 same-length-2 c = search rules

@@ -6,12 +6,12 @@ use lib.ListN.{length}
 use native.Mathlib.Omega.{arith}
 use borrow.Author.Rules.{rules}
 use Rattle.store.specs.Marking.{room, Clear}
-use Rattle.store.proofs.MarkLaws.{zeros-clear}
-use Rattle.uses.proofs.PassLaws.{puts-le}
+use Rattle.store.proofs.MarkLaws.{zeros_clear}
+use Rattle.uses.proofs.PassLaws.{puts_le}
 use Rattle.engine.specs.InRange.{Given}
-use Rattle.engine.proofs.GivenLaws.{rows-given, start-given}
-use Rattle.engine.proofs.StartLaws.{begun-room}
-use Rattle.engine.proofs.RunLaws.{worked-settled, over-at-start, over-when-spent, done-when-settled}
+use Rattle.engine.proofs.GivenLaws.{rows_given, start_given}
+use Rattle.engine.proofs.StartLaws.{begun_room}
+use Rattle.engine.proofs.RunLaws.{worked_settled, over_at_start, over_when_spent, done_when_settled}
 use Rattle.engine.proofs.run.run.Statement.{statement}
 use Rattle.engine.proofs.run.run.Tie as tie
 
@@ -30,11 +30,11 @@ module _ (c : tie.After-start) where
   long = cleared.clear.kept.0 ∙ entry.pre.1
 
   clear : Clear Z
-  clear = zeros-clear (length entry.args.mem.now) cleared.clear.ensures
+  clear = zeros_clear (length entry.args.mem.now) cleared.clear.ensures
 
 -- what is given is in range
 given : (c : tie.Start) → Given c.args.s c.args.counts c.args.steps.now c.args.pushes.now c.args.pops.now
-given c = rows-given c.requires.0.1
+given c = rows_given c.requires.0.1
 
 clear-requires : tie.Need-clear-requires
 clear-requires c κs = search rules
@@ -44,7 +44,7 @@ start-requires c κs =
     let at = c.before.before.before in
     let first = at.before.before.before.before.before.before.before in (
       (given first).plan,
-      start-given first.requires.0.1.sound first.requires.0.1.plan first.requires.0.2,
+      start_given first.requires.0.1.sound first.requires.0.1.plan first.requires.0.2,
       omega (arith, at.clear.auto.0, first.requires.1),
     )
 
@@ -64,8 +64,8 @@ returns c =
     let test = last.before.before in
     let at = test.before.before.before.before in
     let n = (given (entry at)).plan.n_pos in (
-      zeros-clear (length at.start.new.1.1.1.0) last.clear2.ensures,
-      over-at-start rows first (Z at) (long at) (clear at) at.start.ensures (omega (arith, test.if1.true)),
+      zeros_clear (length at.start.new.1.1.1.0) last.clear2.ensures,
+      over_at_start rows first (Z at) (long at) (clear at) at.start.ensures (omega (arith, test.if1.true)),
     )
 
 sub-left : tie.Need-overflow-sub-left
@@ -76,7 +76,7 @@ work-requires c κs =
     let at = c.before.before.before.before.before in
     let a = (entry at).args in (
       given (entry at),
-      omega (arith, ap room at.start.ensures, begun-room a.s a.g a.locals.now a.s.n (Z at), long at),
+      omega (arith, ap room at.start.ensures, begun_room a.s a.g a.locals.now a.s.n (Z at), long at),
     )
 
 clear-requires-3 : tie.Need-clear-requires-3
@@ -94,8 +94,8 @@ returns-2 c =
     let within = work.before.before in
     let at = within.before.before.before.before in
     let n = (given (entry at)).plan.n_pos in (
-      zeros-clear (length work.work.new.1.1.1.1.1.0) last.clear3.ensures,
-      over-when-spent rows first (Z at) (long at) (clear at) at.start.ensures (worked-settled work.work.ensures)
+      zeros_clear (length work.work.new.1.1.1.1.1.0) last.clear3.ensures,
+      over_when_spent rows first (Z at) (long at) (clear at) at.start.ensures (worked_settled work.work.ensures)
           (omega (arith, within.if1.false)) test.if2.true,
     )
 
@@ -103,7 +103,7 @@ sub-spare : tie.Need-overflow-sub-spare
 sub-spare c = search rules
 
 sub-count : tie.Need-overflow-sub-count
-sub-count c = let work = c.before.before.before.before.before in omega (arith, puts-le (worked-settled work.work.ensures).puts)
+sub-count c = let work = c.before.before.before.before.before in omega (arith, puts_le (worked_settled work.work.ensures).puts)
 
 same-length-3 : tie.Need-same-length-3
 same-length-3 c = search rules
@@ -115,9 +115,9 @@ returns-3 c =
     let within = work.before.before in
     let at = within.before.before.before.before in
     let n = (given (entry at)).plan.n_pos in
-    let less = puts-le (worked-settled work.work.ensures).puts in
+    let less = puts_le (worked_settled work.work.ensures).puts in
     let some = c.before.if2.false in
-    done-when-settled rows first (Z at) (long at) (clear at) at.start.ensures (worked-settled work.work.ensures)
+    done_when_settled rows first (Z at) (long at) (clear at) at.start.ensures (worked_settled work.work.ensures)
     (omega (arith, within.if1.false)) (omega arith) (omega arith)
 
 pub run_spec : {M : Type 1} → statement M

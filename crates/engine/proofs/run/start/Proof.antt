@@ -4,9 +4,9 @@ use Prim.Native.Nat.{◌≤◌, ◌-◌}
 use native.Mathlib.Omega.{arith}
 use borrow.Author.Rules.{rules}
 use Rattle.store.specs.Marking.{room}
-use Rattle.store.proofs.MarkLaws.{put-room}
+use Rattle.store.proofs.MarkLaws.{put_room}
 use Rattle.engine.specs.Starting.{begun}
-use Rattle.engine.proofs.StartLaws.{begun-none, begun-next}
+use Rattle.engine.proofs.StartLaws.{begun_none, begun_next}
 use Rattle.engine.proofs.run.start.Statement.{statement}
 use Rattle.engine.proofs.run.start.Tie as tie
 
@@ -22,7 +22,7 @@ start c = c.before.before.before
 loop-holds : tie.Need-loop-init invariant-loop decreases-loop
 loop-holds c =
     let a = c.before.before.args in
-    (omega arith, refl, begun-none a.s a.g a.locals.now a.mem.now)
+    (omega arith, refl, begun_none a.s a.g a.locals.now a.mem.now)
 
 start-at-requires : tie.Need-start-at-requires invariant-loop decreases-loop
 start-at-requires c κs = let (h, first, long) = (start c.before).pre in (h, first, c.loop-test.true)
@@ -46,8 +46,8 @@ loop-again c =
     let a = (start head).args in
     let (l, long, is) = head.loop.invariant in (
       omega arith,
-      ap room put.put-mark.ensures ∙ put-room _ _ ∙ long,
-      begun-next a.s a.g a.locals.now head.loop.t a.mem.now at.start-at.ensures.0 is put.put-mark.ensures,
+      ap room put.put-mark.ensures ∙ put_room _ _ ∙ long,
+      begun_next a.s a.g a.locals.now head.loop.t a.mem.now at.start-at.ensures.0 is put.put-mark.ensures,
     )
 
 same_length : tie.Need-same-length invariant-loop decreases-loop

@@ -2,7 +2,7 @@
 use mathlib.Core.Path.{◌≡◌, sym, ap, subst, ◌∙◌}
 use Prim.Native.Nat.{ℕ, ◌+◌, ◌*◌, ◌≤◌, ◌<◌}
 use native.Mathlib.Omega.{arith}
-use Rattle.positions.proofs.Places.{p-line, ck-small, parts}
+use Rattle.positions.proofs.Places.{p_line, ck_small, parts}
 use Rattle.engine.specs.StartFacts.{start_at}
 use Rattle.engine.proofs.run.start_at.Statement.{statement}
 use Rattle.engine.proofs.run.start_at.Tie as tie
@@ -13,7 +13,7 @@ place : (c : tie.After-p-at) → let s = c.before.before.before.before.args.s in
 place c =
     let (h, first, t) = c.before.before.before.before.requires in
     let d = c.before.pair_of.ensures.1 in
-    (omega (arith, c.p-at.ensures, p-line h t d d, parts h), ck-small h d, h.w-max)
+    (omega (arith, c.p-at.ensures, p_line h t d d, parts h), ck_small h d, h.w_max)
 
 -- where rule 1 says
 place_is : (c : tie.After-p-at) → let a = c.before.before.before.before.args in

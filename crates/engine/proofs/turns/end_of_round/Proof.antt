@@ -3,16 +3,16 @@
 use native.Mathlib.Omega.{arith}
 use borrow.Author.Rules.{rules}
 use Rattle.store.proofs.MarkLaws.{is_true}
-use Rattle.uses.proofs.StretchNumbers.{stretches-small}
-use Rattle.engine.proofs.TurnLaws.{begins-anew, all-covered, all-fewer, ends-settled, ends-spent}
+use Rattle.uses.proofs.StretchNumbers.{stretches_small}
+use Rattle.engine.proofs.TurnLaws.{begins_anew, all_covered, all_fewer, ends_settled, ends_spent}
 use Rattle.engine.proofs.turns.end_of_round.Statement.{statement}
 use Rattle.engine.proofs.turns.end_of_round.Tie as tie
 
 mul-last : tie.Need-overflow-mul-last
-mul-last c = omega (arith, stretches-small c.before.before.before.requires.0)
+mul-last c = omega (arith, stretches_small c.before.before.before.requires.0)
 
 mul-put-more : tie.Need-overflow-mul-put-more
-mul-put-more c = omega (arith, stretches-small c.before.before.before.requires.0)
+mul-put-more c = omega (arith, stretches_small c.before.before.before.requires.0)
 
 put-more-requires : tie.Need-put-more-requires
 put-more-requires c κs = search rules
@@ -21,7 +21,7 @@ returns : tie.Need-returns
 returns c =
     λ st pu b m₀ done.
     let many = is_true _ c.before.put-more.ensures c.if1.true in
-    begins-anew _ _ _ _ _ c.before.before.before.before.before.requires.0 done.covered done.fewer (λ e. omega arith)
+    begins_anew _ _ _ _ _ c.before.before.before.before.before.requires.0 done.covered done.fewer (λ e. omega arith)
 
 q-facts-requires : tie.Need-q-facts-requires
 q-facts-requires c κs = search rules
@@ -30,13 +30,13 @@ same_length : tie.Need-same-length
 same_length c = search rules
 
 returns-2 : tie.Need-returns-2
-returns-2 c = λ st pu b m₀ done. ends-settled _ _ _ _ _ done c.before.before.before.q-facts.ensures c.if2.true
+returns-2 c = λ st pu b m₀ done. ends_settled _ _ _ _ _ done c.before.before.before.q-facts.ensures c.if2.true
 
 same-length-2 : tie.Need-same-length-2
 same-length-2 c = search rules
 
 returns-3 : tie.Need-returns-3
-returns-3 c = λ st pu b m₀ done. ends-spent _ _ _ _ _ done c.before.before.before.before.q-facts.ensures c.if3.true
+returns-3 c = λ st pu b m₀ done. ends_spent _ _ _ _ _ done c.before.before.before.before.q-facts.ensures c.if3.true
 
 same-length-3 : tie.Need-same-length-3
 same-length-3 c = search rules
@@ -47,7 +47,7 @@ returns-4 c =
     let at = c.before.before.before.before in
     let entry = at.before.before.before.before.before.before.before in
     let swept = at.q-facts.ensures in
-    begins-anew _ _ _ _ _ entry.requires.0 (all-covered _ _ _ _ _ done swept) (all-fewer _ _ _ _ _ done swept) c.before.if2.false
+    begins_anew _ _ _ _ _ entry.requires.0 (all_covered _ _ _ _ _ done swept) (all_fewer _ _ _ _ _ done swept) c.before.if2.false
 
 pub end-of-round-spec : {M : Type 1} → statement M
 end-of-round-spec =

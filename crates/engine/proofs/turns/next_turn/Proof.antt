@@ -2,9 +2,9 @@
 -- stretch with a mark has, and if there is none the round ends.
 use native.Mathlib.Omega.{arith}
 use borrow.Author.Rules.{rules}
-use Rattle.uses.proofs.PassLaws.{swept-room, and_then}
-use Rattle.uses.proofs.StretchNumbers.{k-pos, stretches-small, stretch-thread, stretch-pair}
-use Rattle.engine.proofs.TurnLaws.{goes_spent, goes-again, goes-next, stretches-done}
+use Rattle.uses.proofs.PassLaws.{swept_room, and_then}
+use Rattle.uses.proofs.StretchNumbers.{k_pos, stretches_small, stretch_thread, stretch_pair}
+use Rattle.engine.proofs.TurnLaws.{goes_spent, goes_again, goes_next, stretches_done}
 use Rattle.engine.proofs.turns.next_turn.Statement.{statement}
 use Rattle.engine.proofs.turns.next_turn.Tie as tie
 
@@ -12,18 +12,18 @@ abbrev start : tie.After-p-rest → tie.Start
 start c = c.before.before.before.before.before.before.before.before.before
 
 mul-last : tie.Need-overflow-mul-last
-mul-last c = omega (arith, stretches-small c.before.before.before.before.requires.0)
+mul-last c = omega (arith, stretches_small c.before.before.before.before.requires.0)
 
 div-p-rest : tie.Need-nonzero-div-p-rest
-div-p-rest c = omega (arith, k-pos c.before.before.before.before.before.before.requires.0)
+div-p-rest c = omega (arith, k_pos c.before.before.before.before.before.before.requires.0)
 
 rem-p-rest : tie.Need-nonzero-rem-p-rest
-rem-p-rest c = omega (arith, k-pos c.before.before.before.before.before.before.before.requires.0)
+rem-p-rest c = omega (arith, k_pos c.before.before.before.before.before.before.before.requires.0)
 
 p-rest-requires : tie.Need-p-rest-requires
 p-rest-requires c κs =
     let (plan, pushes, pops, stretch, room) = c.before.before.before.before.before.before.before.before.requires in
-    (plan, pushes, stretch-thread plan stretch, stretch-pair plan stretch, room)
+    (plan, pushes, stretch_thread plan stretch, stretch_pair plan stretch, room)
 
 same_length : tie.Need-same-length
 same_length c = search rules
@@ -41,11 +41,11 @@ returns-2 : tie.Need-returns-2
 returns-2 c =
     λ st b m₀ m given t stepped.
     let at = c.before.before.before.before.before in
-    goes-again _ _ _ _ _ t (start at).requires.3 (and_then stepped at.p-rest.ensures) c.if2.true
+    goes_again _ _ _ _ _ t (start at).requires.3 (and_then stepped at.p-rest.ensures) c.if2.true
 
 add-next-stretch : tie.Need-overflow-add-next-stretch
 add-next-stretch c =
-    let (plan, pushes, pops, stretch, room) = (start c.before.before.before.before.before.before).requires in omega (arith, stretches-small plan)
+    let (plan, pushes, pops, stretch, room) = (start c.before.before.before.before.before.before).requires in omega (arith, stretches_small plan)
 
 next-stretch-requires : tie.Need-next-stretch-requires
 next-stretch-requires c κs = search rules
@@ -58,14 +58,14 @@ returns-3 c =
     λ st b m₀ m given t stepped.
     let next = c.before in
     let at = next.before.before.before.before.before.before.before in
-    goes-next _ _ _ _ _ t (start at).requires.3 (and_then stepped at.p-rest.ensures) given next.next-stretch.ensures
+    goes_next _ _ _ _ _ t (start at).requires.3 (and_then stepped at.p-rest.ensures) given next.next-stretch.ensures
     next.before.before.if2.false c.if3.true
 
 end-of-round-requires : tie.Need-end-of-round-requires
 end-of-round-requires c κs =
     let at = c.before.before.before.before.before.before.before.before.before in
     let (plan, pushes, pops, stretch, room) = (start at).requires in
-    (plan, pops, omega (arith, swept-room at.p-rest.ensures))
+    (plan, pops, omega (arith, swept_room at.p-rest.ensures))
 
 same-length-4 : tie.Need-same-length-4
 same-length-4 c = search rules
@@ -77,7 +77,7 @@ returns-4 c =
     let next = last.before.before.before in
     let at = next.before.before.before.before.before.before.before in
     last.end-of-round.ensures st _ b m₀
-    (stretches-done _ _ _ _ _ t (start at).requires.3 (and_then stepped at.p-rest.ensures) given next.next-stretch.ensures
+    (stretches_done _ _ _ _ _ t (start at).requires.3 (and_then stepped at.p-rest.ensures) given next.next-stretch.ensures
     last.before.before.if3.false)
 
 pub next-turn-spec : {M : Type 1} → statement M

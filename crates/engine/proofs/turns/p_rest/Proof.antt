@@ -1,10 +1,10 @@
 -- Rules 5 and 2, one after the other.
 use native.Mathlib.Omega.{arith}
 use borrow.Author.Rules.{rules}
-use Rattle.positions.proofs.Places.{p-stretch, parts}
+use Rattle.positions.proofs.Places.{p_stretch, parts}
 use Rattle.uses.specs.Uses.{Upto}
 use Rattle.uses.specs.RuleUses.{MovedFrom}
-use Rattle.uses.proofs.PassLaws.{swept-room, swept_of, and_then}
+use Rattle.uses.proofs.PassLaws.{swept_room, swept_of, and_then}
 use Rattle.engine.proofs.turns.p_rest.Statement.{statement}
 use Rattle.engine.proofs.turns.p_rest.Tie as tie
 
@@ -20,8 +20,8 @@ guarantees-requires c κs =
     let pushed = from.before.before.before in
     let (plan, pushes, t, a, room) = pushed.before.before.before.before.requires in (
       plan,
-      omega (arith, from.p-from.ensures, p-stretch plan t a, parts plan),
-      omega (arith, swept-room pushed.rows_of_lem.ensures),
+      omega (arith, from.p-from.ensures, p_stretch plan t a, parts plan),
+      omega (arith, swept_room pushed.rows_of_lem.ensures),
     )
 
 same_length : tie.Need-same-length

@@ -22,11 +22,11 @@ use Rattle.engine.specs.declared.turns.Turn.{Turn}
 use Rattle.engine.specs.InRange.{Given as Ready}
 use Rattle.uses.specs.AllUses.{AllUses}
 use Rattle.engine.specs.Working.{Worked}
-use Rattle.engine.specs.Turns.{stretchCount, turnsLeft, Turning, Stepped}
-use Rattle.uses.proofs.PassLaws.{swept-room, swept_of}
-use Rattle.steps.proofs.ListLaws.{taken-length, taken_in, taken-swept}
-use Rattle.engine.proofs.Covering.{covered-room}
-use Rattle.engine.proofs.TurnLaws.{first-turning, last-turning}
+use Rattle.engine.specs.Turns.{stretch_count, turns_left, Turning, Stepped}
+use Rattle.uses.proofs.PassLaws.{swept_room, swept_of}
+use Rattle.steps.proofs.ListLaws.{taken_length, taken_in, taken_swept}
+use Rattle.engine.proofs.Covering.{covered_room}
+use Rattle.engine.proofs.TurnLaws.{first_turning, last_turning}
 use Rattle.store.specs.contracts.rows.RowCounts as counts-type
 use Rattle.store.proofs.rows.RowCounts.TheLaws as counts-laws
 use Rattle.store.proofs.rows.step_rows.Kinds as rows_kinds
@@ -65,10 +65,10 @@ use Rattle.steps.proofs.Derivations.{Ura, Lfts, Shares, tables_of, Ty, ty_int, t
 use Rattle.steps.proofs.Derivations.{value_local, memory_slot, vint, Tables, WpFn, RattleType, slice_ty, Triple, ltb-true, ltb-false}
 use Rattle.steps.proofs.Derivations.{Cx, Life, s_bool, lease, dead, get_row, get, set, sc_here, whole, Mo, o_at, o_fld, After, mslice, msleft, set_vals}
 use Rattle.steps.proofs.Derivations.{as_mut, as_shr, ssptr, msptr, mslice_owed, reads_owed_len, len_v, room_sslice, fieldV, reads-field, v_at, b_at}
-use Rattle.steps.proofs.Derivations.{fix_len, plain_of, Callee, Over, World, u64, n64, v64, bytes, lent, Data, struct_of, ty_of, tyArrayOf, arrayHere, dAt}
-use Rattle.steps.proofs.Derivations.{sAt, mAt, At, gone, over, over-data, over-array, like, read, slice-arg, mut-arg, copied, copied-array, ◌⨾◌, ◌▸◌}
+use Rattle.steps.proofs.Derivations.{fix_len, plain_of, Callee, Over, World, u64, n64, v64, bytes, lent, Data, struct_of, ty_of, ty_array_of, array_here, d_at}
+use Rattle.steps.proofs.Derivations.{s_at, m_at, At, gone, over, over_data, over_array, like, read, slice_arg, mut_arg, copied, copied_array, ◌⨾◌, ◌▸◌}
 use Rattle.steps.proofs.Derivations.{◌◂◌, after, from, falls, skips, leaves, returns, blocks, loops, branches, sets, frees, begins, ends, forgets}
-use Rattle.steps.proofs.Derivations.{it, ◌&◌, arr_shr_p, lends, packs, returned, shares, unshares, calls, copies-array, Function, entry, inside}
+use Rattle.steps.proofs.Derivations.{it, ◌&◌, arr_shr_p, lends, packs, returned, shares, unshares, calls, copies_array, Function, entry, inside}
 use Rattle.steps.proofs.Derivations.{Derived, Left, meets}
 use types.Logic.{Logic}
 
@@ -84,7 +84,7 @@ abbrev R : RattleType
 R = struct_of Rows
 
 abbrev array : Ty
-array = tyArrayOf Rows 1024
+array = ty_array_of Rows 1024
 
 -- the references: to what is lent, to the array, and to its rows
 abbrev steps-ref : Ty
@@ -127,21 +127,21 @@ enough rows few long = omega arith
 
 module _ {s : Plan} {n : RowCounts} {st pu po : List ℕ} {put : Bool} {b : Pass} {m₀ : List ℕ} where
   begins-so : Planned s → {turn : Turn} → turn ≡ record { stretch = 0; before = b.left; pass = b } → Turning s n st pu po put b turn m₀ m₀
-  begins-so plan e = subst (λ (x : Turn). Turning s n st pu po put b x m₀ m₀) (sym e) (first-turning s n st pu po plan put b m₀)
+  begins-so plan e = subst (λ (x : Turn). Turning s n st pu po put b x m₀ m₀) (sym e) (first_turning s n st pu po plan put b m₀)
 
   module _ {turn : Turn} {m : List ℕ} (inv : Turning s n st pu po put b turn m₀ m) where
     same-room : length m ≡ length m₀
-    same-room = covered-room inv.covered
+    same-room = covered_room inv.covered
 
     -- the test of the loop
-    in-stretches : {x : Bool} → x ≡ ltb turn.stretch (stretchCount s) → x ≡ true → turn.stretch < stretchCount s
-    in-stretches e h = ltb-true turn.stretch (stretchCount s) (sym e ∙ h)
+    in-stretches : {x : Bool} → x ≡ ltb turn.stretch (stretch_count s) → x ≡ true → turn.stretch < stretch_count s
+    in-stretches e h = ltb-true turn.stretch (stretch_count s) (sym e ∙ h)
 
-    ends_so : {x : Bool} → x ≡ ltb turn.stretch (stretchCount s) → x ≡ false → {p : Pass} → p ≡ turn.pass
+    ends_so : {x : Bool} → x ≡ ltb turn.stretch (stretch_count s) → x ≡ false → {p : Pass} → p ≡ turn.pass
         → Worked (AllUses s n st pu po) put b p m₀ m
     ends_so e h c =
         subst (λ (p : Pass). Worked (AllUses s n st pu po) put b p m₀ m) (sym c)
-        (last-turning s n st pu po (ltb-false turn.stretch (stretchCount s) (sym e ∙ h)) inv)
+        (last_turning s n st pu po (ltb-false turn.stretch (stretch_count s) (sym e ∙ h)) inv)
 
     -- a turn: t and a are its thread and its pair, and the walker is lent the first n of the rows
     module _ (ready : Ready s n st pu po × (s.w ≤ room m₀)) {t a : ℕ} (thread : (t ≡ turn.stretch / s.k) × (t < s.n))
@@ -156,16 +156,16 @@ module _ {s : Plan} {n : RowCounts} {st pu po : List ℕ} {put : Bool} {b : Pass
 
       -- the walker carried p before, and q after
       module _ {p q : Pass} {m₁ : List ℕ} (did : Swept (StepUses s t a (nth taken) (length taken)) put p q m m₁) where
-        next-asks : turn.stretch < stretchCount s → Planned s × RowsIn s s.l s.f pu n.pushes × RowsIn s s.f s.l po n.pops
-            × (turn.stretch < stretchCount s) × (s.w ≤ room m₁)
+        next-asks : turn.stretch < stretch_count s → Planned s × RowsIn s s.l s.f pu n.pushes × RowsIn s s.f s.l po n.pops
+            × (turn.stretch < stretch_count s) × (s.w ≤ room m₁)
         next-asks here =
-            (ready.0.plan, ready.0.pushes, ready.0.pops, here, omega (arith, same-room, swept-room did, ready.1))
+            (ready.0.plan, ready.0.pushes, ready.0.pops, here, omega (arith, same-room, swept_room did, ready.1))
 
         stepped : p ≡ turn.pass → Stepped s n st put turn q m m₁
         stepped c =
             swept_of (λ (x : ℕ). StepUses s x (turn.stretch % s.k) (row_at st) n.steps) thread.0
             (swept_of (λ (x : ℕ). StepUses s t x (row_at st) n.steps) pair.0
-            (subst (λ (x : Pass). Swept (StepUses s t a (row_at st) n.steps) put x q m m₁) c (taken-swept rows listed long s t a did)))
+            (subst (λ (x : Pass). Swept (StepUses s t a (row_at st) n.steps) put x q m m₁) c (taken_swept rows listed long s t a did)))
 
 -- ---- the derivation
 
@@ -189,7 +189,7 @@ module _ {M : Type 1} {𝓤 : Ura M} (𝓛 : Logic 𝓤) (𝓣 : Tables 𝓤 �
 
     -- the context at the head of a turn: that at the entry, with n, rows and turn
     abbrev Hd : Cx
-    Hd = After (After (After (entry work κs qs) 9 (sc_here n64)) 10 (arrayHere Rows 1024)) 11 (whole (struct_of Turns))
+    Hd = After (After (After (entry work κs qs) 9 (sc_here n64)) 10 (array_here Rows 1024)) 11 (whole (struct_of Turns))
 
     -- what the local at k holds there
     abbrev held : (k : ℕ) (u : Mo Hd) → (get_row k Hd.locals).1.Mod
@@ -206,7 +206,7 @@ module _ {M : Type 1} {𝓤 : Ura M} (𝓛 : Logic 𝓤) (𝓣 : Tables 𝓤 �
         Turning (held 1 u) (held 2 u) (held 3 u).now (held 4 u).now (held 5 u).now (held 7 u) (held 8 u) vs.0 (held 6 u).now vs.1
 
     abbrev μ : Mo Hd → Turn × List ℕ → ℕ
-    μ u vs = turnsLeft (held 1 u) vs.0
+    μ u vs = turns_left (held 1 u) vs.0
 
     abbrev derivation : Derived work 𝓛 𝓣 κs qs bs
     derivation =
@@ -214,38 +214,38 @@ module _ {M : Type 1} {𝓤 : Ura M} (𝓛 : Logic 𝓤) (𝓣 : Tables 𝓤 �
         sets 9 n64 (o_fld 2 (field 0 ∷ []) u64 0 (fieldV Counts.type Counts.laws 0))
         (reads-field 𝓛 Counts.type Counts.laws 0 u64 0 refl, refl) (gone w u64) refl (λ u. refl) (λ u. tt) ⨾
         -- let rows = step_rows(steps, n);
-        calls step-rows (sAt bytes 3 steps-ref it & v_at 9 it & tt) 16 (0 ∷ [])
-        (slice-arg w bytes steps-ref 0 refl ((read w n64, refl) & tt)) (gone w array) (tt, tt) refl ⨾
-        copies-array Rows 1024 16 10 it it (copied-array w Rows 1024) (gone w array) refl refl ⨾
-        frees 16 array (over-array w Rows 1024) ▸
+        calls step-rows (s_at bytes 3 steps-ref it & v_at 9 it & tt) 16 (0 ∷ [])
+        (slice_arg w bytes steps-ref 0 refl ((read w n64, refl) & tt)) (gone w array) (tt, tt) refl ⨾
+        copies_array Rows 1024 16 10 it it (copied_array w Rows 1024) (gone w array) refl refl ⨾
+        frees 16 array (over_array w Rows 1024) ▸
         -- let mut turn = first_turn(pass);
-        calls first-turn (dAt Passes 8 it & tt) 11 [] ((copied w Passes, refl) & tt) (gone w (ty_of Turns)) tt refl ⨾
+        calls first-turn (d_at Passes 8 it & tt) 11 [] ((copied w Passes, refl) & tt) (gone w (ty_of Turns)) tt refl ⨾
         after Hd (blocks (loops put Holds μ (
         -- while goes_on(s, turn) {
-        calls goes_on (dAt Plans 1 it & dAt Turns 11 it & tt) 17 [] ((copied w Plans, refl) & (copied w Turns, refl) & tt) (gone w ty_bool) tt refl ⨾
+        calls goes_on (d_at Plans 1 it & d_at Turns 11 it & tt) 17 [] ((copied w Plans, refl) & (copied w Turns, refl) & tt) (gone w ty_bool) tt refl ⨾
         after Hd (branches 17 it (read w s_bool) refl
         (frees 17 ty_bool (over w s_bool) ▸ skips tt)
         (frees 17 ty_bool (over w s_bool) ▸ leaves tt)) (
         -- let t = thread_of(s, turn);
-        calls thread-of (dAt Plans 1 it & dAt Turns 11 it & tt) 12 [] ((copied w Plans, refl) & (copied w Turns, refl) & tt) (gone w u64) tt refl ⨾
+        calls thread-of (d_at Plans 1 it & d_at Turns 11 it & tt) 12 [] ((copied w Plans, refl) & (copied w Turns, refl) & tt) (gone w u64) tt refl ⨾
         -- let a = pair_from(s, turn);
-        calls pair-from (dAt Plans 1 it & dAt Turns 11 it & tt) 13 [] ((copied w Plans, refl) & (copied w Turns, refl) & tt) (gone w u64) tt refl ⨾
+        calls pair-from (d_at Plans 1 it & d_at Turns 11 it & tt) 13 [] ((copied w Plans, refl) & (copied w Turns, refl) & tt) (gone w u64) tt refl ⨾
         -- let sofar = pass_of(turn);
-        calls pass_of (dAt Turns 11 it & tt) 14 [] ((copied w Turns, refl) & tt) (gone w (ty_of Passes)) tt refl ⨾
+        calls pass_of (d_at Turns 11 it & tt) 14 [] ((copied w Turns, refl) & tt) (gone w (ty_of Passes)) tt refl ⨾
         -- let stepped = walk(&rows[..n], s, t, a, mem, put, sofar);
         from (After (After (After Hd 12 (sc_here n64)) 13 (sc_here n64)) 14 (whole (struct_of Passes))) (
         begins 4 _ ▸
-        shares R 10 9 18 1024 4 array-ref it it (like w (arrayHere Rows 1024)) (gone w array-ref) refl (λ b o. tt) (lit< tt, lit< tt) ⨾
+        shares R 10 9 18 1024 4 array-ref it it (like w (array_here Rows 1024)) (gone w array-ref) refl (λ b o. tt) (lit< tt, lit< tt) ⨾
         packs R (as_shr R) 18 19 4 array-ref rows-ref it (o_at 9 u64 v64) (like w (ssptr R array-ref 4)) (gone w (slice_ty rows-ref))
         (read w n64, refl) refl refl (λ b o k. tt) ⨾
         begins 5 _ ▸
         lends bytes 6 20 3 5 mem-ref lent lent-mem 0 it (like w (mslice bytes mem-ref 3)) (gone w lent) refl tt refl refl refl (λ b o. tt) ⨾
         packs bytes (as_mut bytes) 20 21 5 lent lent it (o_fld 6 (field 1 ∷ []) u64 8 (λ v. len_v v.0)) (like w (msptr bytes lent 5))
         (gone w (slice_ty lent)) (reads_owed_len 𝓛 bytes mem-ref 3 5 lent-mem 8 refl, refl) refl refl (λ b o k. tt) ⨾
-        calls walk (sAt R 19 rows-ref it & dAt Plans 1 it & v_at 12 it & v_at 13 it & mAt bytes 21 lent it & b_at 7 it & dAt Passes 14 it & tt)
-        15 (4 ∷ 5 ∷ []) (slice-arg w R rows-ref 4 refl ((copied w Plans, refl) & (read w n64, refl) & (read w n64, refl)
-        & mut-arg w bytes lent 5 refl ((read w s_bool, refl) & (copied w Passes, refl) & tt))) (gone w (ty_of Passes)) (tt, (tt, tt)) refl ⨾
-        frees 12 u64 (over w n64) ▸ frees 13 u64 (over w n64) ▸ frees 14 (ty_of Passes) (over-data w Passes) ▸
+        calls walk (s_at R 19 rows-ref it & d_at Plans 1 it & v_at 12 it & v_at 13 it & m_at bytes 21 lent it & b_at 7 it & d_at Passes 14 it & tt)
+        15 (4 ∷ 5 ∷ []) (slice_arg w R rows-ref 4 refl ((copied w Plans, refl) & (read w n64, refl) & (read w n64, refl)
+        & mut_arg w bytes lent 5 refl ((read w s_bool, refl) & (copied w Passes, refl) & tt))) (gone w (ty_of Passes)) (tt, (tt, tt)) refl ⨾
+        frees 12 u64 (over w n64) ▸ frees 13 u64 (over w n64) ▸ frees 14 (ty_of Passes) (over_data w Passes) ▸
         frees 19 (slice_ty rows-ref) (room_sslice 𝓛 R rows-ref 4) ▸
         ends 4 refl ▸ unshares R 10 1024 4 it (like w (arr_shr_p R 1024 4)) refl ▸ forgets 4 dead refl ▸
         ends 5 refl ▸
@@ -259,21 +259,21 @@ module _ {M : Type 1} {𝓤 : Ura M} (𝓛 : Logic 𝓤) (𝓣 : Tables 𝓤 �
         packs bytes (as_mut bytes) 22 23 5 lent lent it (o_fld 6 (field 1 ∷ []) u64 8 (λ v. len_v v.0)) (like w (msptr bytes lent 5))
         (gone w (slice_ty lent)) (reads_owed_len 𝓛 bytes mem-ref 3 5 lent-mem 8 refl, refl) refl refl (λ b o k. tt) ⨾
         falls tt (
-        calls next-turn (dAt Plans 1 it & dAt Counts 2 it & sAt bytes 4 pushes-ref it & sAt bytes 5 pops-ref it & mAt bytes 23 lent it & b_at 7 it
-        & dAt Turns 11 it & dAt Passes 15 it & tt) 11 (1 ∷ 2 ∷ 5 ∷ [])
-        ((copied w Plans, refl) & (copied w Counts, refl) & slice-arg w bytes pushes-ref 1 refl (slice-arg w bytes pops-ref 2 refl
-        (mut-arg w bytes lent 5 refl ((read w s_bool, refl) & (copied w Turns, refl) & (copied w Passes, refl) & tt))))
-        (over-data w Turns) (tt, (tt, (tt, tt))) refl ◂
-        frees 15 (ty_of Passes) (over-data w Passes) ◂
+        calls next-turn (d_at Plans 1 it & d_at Counts 2 it & s_at bytes 4 pushes-ref it & s_at bytes 5 pops-ref it & m_at bytes 23 lent it & b_at 7 it
+        & d_at Turns 11 it & d_at Passes 15 it & tt) 11 (1 ∷ 2 ∷ 5 ∷ [])
+        ((copied w Plans, refl) & (copied w Counts, refl) & slice_arg w bytes pushes-ref 1 refl (slice_arg w bytes pops-ref 2 refl
+        (mut_arg w bytes lent 5 refl ((read w s_bool, refl) & (copied w Turns, refl) & (copied w Passes, refl) & tt))))
+        (over_data w Turns) (tt, (tt, (tt, tt))) refl ◂
+        frees 15 (ty_of Passes) (over_data w Passes) ◂
         ends 5 refl ◂
         returned bytes 23 6 3 5 mem-ref lent lent-mem it it (like w (msleft bytes lent))
         (like w (mslice_owed bytes mem-ref 3 5 lent-mem)) refl refl ◂
         forgets 5 dead refl))))))) (
         -- pass_of(turn)
-        calls pass_of (dAt Turns 11 it & tt) 0 [] ((copied w Turns, refl) & tt) (gone w (ty_of Passes)) tt refl ⨾
-        frees 1 (ty_of Plans) (over-data w Plans) ▸ frees 2 (ty_of Counts) (over-data w Counts) ▸ frees 7 ty_bool (over w s_bool) ▸
-        frees 8 (ty_of Passes) (over-data w Passes) ▸ frees 9 u64 (over w n64) ▸ frees 10 array (over-array w Rows 1024) ▸
-        frees 11 (ty_of Turns) (over-data w Turns) ▸
+        calls pass_of (d_at Turns 11 it & tt) 0 [] ((copied w Turns, refl) & tt) (gone w (ty_of Passes)) tt refl ⨾
+        frees 1 (ty_of Plans) (over_data w Plans) ▸ frees 2 (ty_of Counts) (over_data w Counts) ▸ frees 7 ty_bool (over w s_bool) ▸
+        frees 8 (ty_of Passes) (over_data w Passes) ▸ frees 9 u64 (over w n64) ▸ frees 10 array (over_array w Rows 1024) ▸
+        frees 11 (ty_of Turns) (over_data w Turns) ▸
         returns tt)
 
   -- What the derivation leaves to show, in the order of the statements. Of the answer x of a call, x.1 is the result, x.2 what the lent slices
@@ -304,7 +304,7 @@ module _ {M : Type 1} {𝓤 : Ura M} (𝓛 : Logic 𝓤) (𝓣 : Tables 𝓤 �
                               λ sofar. (
                                 long,
                                 λ g. (
-                                  ap (λ (k : ℕ). vint w64 k) (sym (taken-length rows listed long)),
+                                  ap (λ (k : ℕ). vint w64 k) (sym (taken_length rows listed long)),
                                   λ name. (
                                     refl,
                                     (
@@ -321,7 +321,7 @@ module _ {M : Type 1} {𝓤 : Ura M} (𝓛 : Logic 𝓤) (𝓣 : Tables 𝓤 �
                                                 let step = stepped inv pre thread.5 pair.5 listed long walked.5 sofar.5 in
                                                 let to = next.5 _ _ _ _ ready inv step in (
                                                   refl,
-                                                  λ len'. (turnsLeft s turn, to.fewer, ((turn, m), refl, to.turning, refl)),
+                                                  λ len'. (turns_left s turn, to.fewer, ((turn, m), refl, to.turning, refl)),
                                                 ),
                                           ),
                                         ),

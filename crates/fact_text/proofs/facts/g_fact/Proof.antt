@@ -1,7 +1,7 @@
--- `fact_text::facts::g_fact` meets its contract: the digits of i, taken off from the right as model's atG does. No size is 0.
+-- `fact_text::facts::g_fact` meets its contract: the digits of i, taken off from the right as model's at_g does. No size is 0.
 use mathlib.Core.Path.{refl}
 use borrow.Author.Rules.{rules}
-use Rattle.model.specs.Positions.{atG}
+use Rattle.model.specs.Positions.{at_g}
 use Rattle.fact_text.proofs.facts.g_fact.Statement.{statement}
 use Rattle.fact_text.proofs.facts.g_fact.Tie as tie
 
@@ -18,7 +18,7 @@ rem-g2 : tie.Need-nonzero-rem-g2
 rem-g2 c = search rules
 
 returns : tie.Need-returns
-unfolding atG
+unfolding at_g
 returns c = refl
 
 pub g-fact-spec : {M : Type 1} → statement M

@@ -1,7 +1,7 @@
--- `fact_text::facts::q_fact` meets its contract: the digits of i, taken off from the right as model's atQ does. No size is 0.
+-- `fact_text::facts::q_fact` meets its contract: the digits of i, taken off from the right as model's at_q does. No size is 0.
 use mathlib.Core.Path.{refl}
 use borrow.Author.Rules.{rules}
-use Rattle.model.specs.Positions.{atQ}
+use Rattle.model.specs.Positions.{at_q}
 use Rattle.fact_text.proofs.facts.q_fact.Statement.{statement}
 use Rattle.fact_text.proofs.facts.q_fact.Tie as tie
 
@@ -36,7 +36,7 @@ rem-l2 : tie.Need-nonzero-rem-l2
 rem-l2 c = search rules
 
 returns : tie.Need-returns
-unfolding atQ
+unfolding at_q
 returns c = refl
 
 pub q-fact-spec : {M : Type 1} → statement M

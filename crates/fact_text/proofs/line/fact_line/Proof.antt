@@ -1,14 +1,14 @@
 -- `fact_text::line::fact_line` meets its contract: each kind of fact has its letter and its fields.
 use borrow.Author.Rules.{rules}
 use Rattle.model.specs.Rules.{Fact}
-use Rattle.fact_text.specs.Facts.{planFact}
-use Rattle.fact_text.proofs.LineLaws.{fact-written}
+use Rattle.fact_text.specs.Facts.{plan_fact}
+use Rattle.fact_text.proofs.LineLaws.{fact_written}
 use Rattle.fact_text.proofs.line.fact_line.Statement.{statement}
 use Rattle.fact_text.proofs.line.fact_line.Tie as tie
 
 -- the fact at the position
 abbrev fact : tie.Start → Fact
-fact c = planFact c.args.s c.args.p
+fact c = plan_fact c.args.s c.args.p
 
 fact-at-requires : tie.Need-fact-at-requires
 fact-at-requires c κs = search rules
@@ -52,17 +52,17 @@ put-line-requires-3 c κs = search rules
 returns : tie.Need-returns
 returns c =
     let t = c.before.before.before.before.before in
-    fact-written (fact t.before.before.before) t.before.before.fact-at.ensures t.t.given.1 c.put-line.ensures
+    fact_written (fact t.before.before.before) t.before.before.fact-at.ensures t.t.given.1 c.put-line.ensures
 
 returns-2 : tie.Need-returns-2
 returns-2 c =
     let t = c.before.before.before.before.before in
-    fact-written (fact t.before.before.before) t.before.before.fact-at.ensures t.t2.given.1 c.put-line2.ensures
+    fact_written (fact t.before.before.before) t.before.before.fact-at.ensures t.t2.given.1 c.put-line2.ensures
 
 returns-3 : tie.Need-returns-3
 returns-3 c =
     let t = c.before.before.before.before.before in
-    fact-written (fact t.before.before.before) t.before.before.fact-at.ensures t.t3.given.1 c.put-line3.ensures
+    fact_written (fact t.before.before.before) t.before.before.fact-at.ensures t.t3.given.1 c.put-line3.ensures
 
 pub fact-line-spec : {M : Type 1} → statement M
 fact-line-spec =

@@ -1,8 +1,8 @@
 -- `files::header::read_header` meets its contract: its stages, one after the other, are the definition's.
 use mathlib.Core.Path.{◌≡◌}
 use borrow.Author.Rules.{rules}
-use Rattle.files.specs.Header.{header_at, headerReadOf}
-use Rattle.files.proofs.HeaderLaws.{made, made-past, made-refused, header_read}
+use Rattle.files.specs.Header.{header_at, header_read_of}
+use Rattle.files.proofs.HeaderLaws.{made, made_past, made_refused, header_read}
 use Rattle.files.proofs.header.read_header.Statement.{statement}
 use Rattle.files.proofs.header.read_header.Tie as tie
 
@@ -23,7 +23,7 @@ version c = (first c).before.before
 read : (c : tie.After-third-cells)
     → made c.before.row-after3.result.end (first c).row-after.result.cells (second c).row-after2.result.cells
     c.before.row-after3.result.cells
-    ≡ headerReadOf (header_at (version c).before.before.args.src.now)
+    ≡ header_read_of (header_at (version c).before.before.args.src.now)
 read c =
     header_read _ (version c).version-end.ensures (first c).before.size-columns.ensures (first c).row-after.ensures
     (sizes c).sizes-of.ensures (second c).before.place-columns.ensures (second c).row-after2.ensures
@@ -83,10 +83,10 @@ no-header-requires c κs = search rules
 returns : tie.Need-returns
 returns c =
     rw (sizes c.before.before.before).sizes-of.ensures
-    (made-past _ _ _ _ (read c.before.before.before) c.before.third-end.given.1)
+    (made_past _ _ _ _ (read c.before.before.before) c.before.third-end.given.1)
 
 returns-2 : tie.Need-returns-2
-returns-2 c = rw c.no_Header.ensures (made-refused _ _ _ _ (read c.before.before.before.before) c.before.before.third-end2.given.1)
+returns-2 c = rw c.no_Header.ensures (made_refused _ _ _ _ (read c.before.before.before.before) c.before.before.third-end2.given.1)
 
 pub read-header-spec : {M : Type 1} → statement M
 read-header-spec =

@@ -3,8 +3,8 @@ use Prim.Native.Nat.{◌+◌, ◌*◌, ◌≤◌}
 use native.Mathlib.Omega.{arith}
 use borrow.Author.Rules.{rules}
 use Rattle.cells.specs.declared.columns.Sizes.{Sizes}
-use Rattle.files.specs.Table.{wOf}
-use Rattle.files.proofs.WLaws.{square-small, threads-small, frames_small, w-small}
+use Rattle.files.specs.Table.{w_of}
+use Rattle.files.proofs.WLaws.{square_small, threads_small, frames_small, w_small}
 use Rattle.files.proofs.header.w_of.Statement.{statement}
 use Rattle.files.proofs.header.w_of.Tie as tie
 
@@ -13,13 +13,13 @@ abbrev sizes : tie.After-struct-known4 → Sizes
 sizes c = c.before.before.before.before.args.sizes
 
 shared² : (c : tie.After-struct-known4) → (sizes c).shared * (sizes c).shared ≤ 65025
-shared² c = square-small _ (omega arith)
+shared² c = square_small _ (omega arith)
 
 locals² : (c : tie.After-struct-known4) → (sizes c).locals * (sizes c).locals ≤ 65025
-locals² c = square-small _ (omega arith)
+locals² c = square_small _ (omega arith)
 
 threads : (c : tie.After-struct-known4) → (sizes c).threads * ((sizes c).shared * (sizes c).shared) ≤ 16581375
-threads c = threads-small _ _ (omega arith) (shared² c)
+threads c = threads_small _ _ (omega arith) (shared² c)
 
 frames : (c : tie.After-struct-known4) → (sizes c).locals * (sizes c).locals * (1 + (sizes c).frames) ≤ 16646400
 frames c = frames_small _ _ (locals² c) (omega arith)
@@ -55,10 +55,10 @@ add-result-2 : tie.Need-overflow-add-result-2
 add-result-2 c = omega (arith, frames c)
 
 mul-result-5 : tie.Need-overflow-mul-result-5
-mul-result-5 c = omega (arith, w-small _ _ (threads c) (frames c))
+mul-result-5 c = omega (arith, w_small _ _ (threads c) (frames c))
 
 returns : tie.Need-returns
-unfolding wOf
+unfolding w_of
 returns c = search rules
 
 pub w-of-spec : {M : Type 1} → statement M

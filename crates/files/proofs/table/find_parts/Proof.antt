@@ -1,6 +1,6 @@
 -- `files::table::find_parts` meets its contract: each part is found after the one before.
 use borrow.Author.Rules.{rules}
-use Rattle.files.proofs.TableStages.{found-by}
+use Rattle.files.proofs.TableStages.{found_by}
 use Rattle.files.proofs.table.find_parts.Statement.{statement}
 use Rattle.files.proofs.table.find_parts.Tie as tie
 
@@ -50,7 +50,7 @@ end-after-requires c κs = search rules
 returns : tie.Need-returns
 returns c =
     let l : tie.After-find-list4 = c.before in
-    found-by (top l).read-header.ensures
+    found_by (top l).read-header.ensures
     (steps l).before.step-columns.ensures (steps l).find-list.ensures
     (pushes l).before.push-columns.ensures (pushes l).find-list2.ensures
     (pops l).before.pop-columns.ensures (pops l).find-list3.ensures

@@ -1,8 +1,8 @@
 -- `files::table::keep_parts` meets its contract: where the file ends, its four lists were found, and each is kept.
 use borrow.Author.Rules.{rules}
 use Rattle.lists.specs.Keeping.{Found}
-use Rattle.files.specs.Stages.{stepsIn, pushesIn, popsIn, errorsIn}
-use Rattle.files.proofs.TableStages.{kept_by, lists-found}
+use Rattle.files.specs.Stages.{steps_in, pushes_in, pops_in, errors_in}
+use Rattle.files.proofs.TableStages.{kept_by, lists_found}
 use Rattle.files.proofs.table.keep_parts.Statement.{statement}
 use Rattle.files.proofs.table.keep_parts.Tie as tie
 
@@ -21,11 +21,11 @@ pops c = c.before.before.before
 
 -- the four lists were found
 found : (c : tie.Start)
-    → Found (stepsIn c.args.parts c.args.src.now)
-    × Found (pushesIn c.args.parts c.args.src.now)
-    × Found (popsIn c.args.parts c.args.src.now)
-    × Found (errorsIn c.args.parts c.args.src.now)
-found c = lists-found c.requires.0 c.requires.1.1
+    → Found (steps_in c.args.parts c.args.src.now)
+    × Found (pushes_in c.args.parts c.args.src.now)
+    × Found (pops_in c.args.parts c.args.src.now)
+    × Found (errors_in c.args.parts c.args.src.now)
+found c = lists_found c.requires.0 c.requires.1.1
 
 step-columns-requires : tie.Need-step-columns-requires
 step-columns-requires c κs = search rules

@@ -7,9 +7,9 @@ use borrow.Author.Rules.{rules}
 use borrow.Author.Tests.{not-true, not-false}
 use Rattle.store.specs.Marking.{Has, Is}
 use Rattle.store.proofs.MarkLaws.{is_true, is_false}
-use Rattle.engine.proofs.GivenLaws.{plan-given, start-given}
+use Rattle.engine.proofs.GivenLaws.{plan_given, start_given}
 use Rattle.engine.specs.StartFacts.{start_at}
-use Rattle.findings.proofs.StartMarks.{first-lacking, none-lacking}
+use Rattle.findings.proofs.StartMarks.{first_lacking, none_lacking}
 use Rattle.findings.proofs.starts.lacking_start.Statement.{statement}
 use Rattle.findings.proofs.starts.lacking_start.Tie as tie
 
@@ -35,7 +35,7 @@ loop-holds c = (omega arith, λ u l. absurd (omega arith))
 start-at-requires : tie.Need-start-at-requires invariant-loop decreases-loop
 start-at-requires c κs =
     let (T, sound, plan, first) = (start c.before.before).pre.0 in
-    (plan-given sound plan, start-given sound plan first, c.before.loop-test.true)
+    (plan_given sound plan, start_given sound plan first, c.before.loop-test.true)
 
 has-requires : tie.Need-has-requires invariant-loop decreases-loop
 has-requires c κs = omega (arith, c.start-at.ensures.1, (start c.before.before.before).pre.1)
@@ -44,7 +44,7 @@ returns : tie.Need-returns invariant-loop decreases-loop
 returns c =
     let head = c.before.before.before.before.before in
     let lacks = is_false _ (looked c.before) (not-true c.before.has.result c.if1.true) in
-    λ T sound plan of. first-lacking sound plan of head.loop.t c.before.before.before.before.loop-test.true head.loop.invariant.1 lacks
+    λ T sound plan of. first_lacking sound plan of head.loop.t c.before.before.before.before.loop-test.true head.loop.invariant.1 lacks
 
 add-t : tie.Need-overflow-add-t invariant-loop decreases-loop
 add-t c = search rules
@@ -60,7 +60,7 @@ loop-again c =
     (omega arith, below_more (λ u. Has a.mem.now (start_at a.s a.g a.locals.now u)) head.loop.t head.loop.invariant.1 here)
 
 returns-2 : tie.Need-returns-2 invariant-loop decreases-loop
-returns-2 c = λ T sound plan of. none-lacking sound plan of (λ u l. c.before.loop.invariant.1 u (omega arith))
+returns-2 c = λ T sound plan of. none_lacking sound plan of (λ u l. c.before.loop.invariant.1 u (omega arith))
 
 pub lacking-start-spec : {M : Type 1} → statement M
 lacking-start-spec =

@@ -5,7 +5,7 @@ use native.Mathlib.Omega.{arith}
 use borrow.Author.Rules.{rules}
 use lib.ListN.{length}
 use Rattle.io.proofs.Counting.{prefix_len_of_le}
-use Rattle.inputs.proofs.FilledLaws.{ReadOn, read-on}
+use Rattle.inputs.proofs.FilledLaws.{ReadOn, read_on}
 use Rattle.inputs.proofs.reading.read_open.Statement.{statement}
 use Rattle.inputs.proofs.reading.read_open.Tie as tie
 
@@ -22,7 +22,7 @@ more : (c : tie.Else1 invariant-loop decreases-loop) → let turn = c.before.bef
 more c =
     let turn = c.before.before.before.before.before.before in
     let loop = turn.before.before.before.loop in
-    read-on loop.buf _ loop.done loop.invariant.0 (omega (arith, turn.read-once.auto)) turn.read-once.ensures
+    read_on loop.buf _ loop.done loop.invariant.0 (omega (arith, turn.read-once.auto)) turn.read-once.ensures
     c.before.before.count.given.1
 
 loop-holds : tie.Need-loop-init invariant-loop decreases-loop

@@ -2,8 +2,8 @@
 use mathlib.Core.Path.{sym, ◌∙◌}
 use borrow.Author.Rules.{rules}
 use Rattle.numbers.specs.Reading.{field_at}
-use Rattle.numbers.proofs.ReadingLaws.{read-got, read-bad}
-use Rattle.lists.proofs.ListLaws.{list_counted, list-uncounted}
+use Rattle.numbers.proofs.ReadingLaws.{read_got, read_bad}
+use Rattle.lists.proofs.ListLaws.{list_counted, list_uncounted}
 use Rattle.lists.proofs.list.find_at.Statement.{statement}
 use Rattle.lists.proofs.list.find_at.Tie as tie
 
@@ -31,13 +31,13 @@ no-list-requires c κs = search rules
 returns : tie.Need-returns
 returns c =
     let v : tie.After-value = c.before.before in
-    rw (list_counted _ _ _ _ (read-got (field_at _ _ _ _) _ _ (sym v.value.given.1 ∙ v.before.before.field.ensures)))
+    rw (list_counted _ _ _ _ (read_got (field_at _ _ _ _) _ _ (sym v.value.given.1 ∙ v.before.before.field.ensures)))
     c.find-rows.ensures
 
 returns-2 : tie.Need-returns-2
 returns-2 c =
     let x : tie.After-refusal = c.before.before in
-    rw (list-uncounted _ _ _ _ (read-bad (field_at _ _ _ _) _ (sym x.refusal.given.1 ∙ x.before.before.field.ensures)))
+    rw (list_uncounted _ _ _ _ (read_bad (field_at _ _ _ _) _ (sym x.refusal.given.1 ∙ x.before.before.field.ensures)))
     c.no-list.ensures
 
 pub find-at-spec : {M : Type 1} → statement M

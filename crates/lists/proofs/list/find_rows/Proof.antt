@@ -3,9 +3,9 @@
 use Prim.Native.Nat.{◌-◌}
 use native.Mathlib.Omega.{arith}
 use borrow.Author.Rules.{rules}
-use Rattle.lists.specs.Lists.{nextRow}
-use Rattle.cells.proofs.StageLaws.{row-past, row-refused}
-use Rattle.lists.proofs.ListLaws.{Finding, find-start, find-more, find-bad, find-end}
+use Rattle.lists.specs.Lists.{next_row}
+use Rattle.cells.proofs.StageLaws.{row_past, row_refused}
+use Rattle.lists.proofs.ListLaws.{Finding, find_start, find_more, find_bad, find_end}
 use Rattle.lists.proofs.list.find_rows.Statement.{statement}
 use Rattle.lists.proofs.list.find_rows.Tie as tie
 
@@ -20,7 +20,7 @@ abbrev turn : tie.After-next-row invariant-loop decreases-loop → tie.At-loop i
 turn r = r.before.before
 
 loop-holds : tie.Need-loop-init invariant-loop decreases-loop
-loop-holds c = find-start
+loop-holds c = find_start
 
 next-row-requires : tie.Need-next-row-requires invariant-loop decreases-loop
 next-row-requires c κs = search rules
@@ -37,8 +37,8 @@ no-list-requires c κs = search rules
 returns : tie.Need-returns invariant-loop decreases-loop
 returns c =
     let r : tie.After-next-row invariant-loop decreases-loop = c.before.before.before.before.before in
-    find-bad (turn r).loop.invariant r.before.loop-test.true
-    (row-refused (nextRow _ _ _ _) r.next_row.ensures c.before.before.end2.given.1)
+    find_bad (turn r).loop.invariant r.before.loop-test.true
+    (row_refused (next_row _ _ _ _) r.next_row.ensures c.before.before.end2.given.1)
     c.no-list.ensures
 
 add-i : tie.Need-overflow-add-i invariant-loop decreases-loop
@@ -50,10 +50,10 @@ loop-less c = omega arith
 loop-again : tie.Need-loop-preserved invariant-loop decreases-loop
 loop-again c =
     let r : tie.After-next-row invariant-loop decreases-loop = c.before.before.before.before in
-    find-more (turn r).loop.invariant r.before.loop-test.true (row-past (nextRow _ _ _ _) r.next_row.ensures c.before.end.given.1)
+    find_more (turn r).loop.invariant r.before.loop-test.true (row_past (next_row _ _ _ _) r.next_row.ensures c.before.end.given.1)
 
 returns-2 : tie.Need-returns-2 invariant-loop decreases-loop
-returns-2 c = find-end c.before.loop.invariant c.loop-test.false
+returns-2 c = find_end c.before.loop.invariant c.loop-test.false
 
 pub find-rows-spec : {M : Type 1} → statement M
 find-rows-spec =

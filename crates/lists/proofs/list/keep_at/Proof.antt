@@ -4,9 +4,9 @@ use native.Mathlib.Omega.{arith}
 use Prim.Native.Nat.{◌+◌}
 use borrow.Author.Rules.{rules}
 use Rattle.numbers.specs.Reading.{got, field_at}
-use Rattle.numbers.proofs.ReadingLaws.{read-got, read-bad}
-use Rattle.numbers.proofs.FieldLaws.{field-got}
-use Rattle.lists.proofs.ListLaws.{list_counted, list-uncounted}
+use Rattle.numbers.proofs.ReadingLaws.{read_got, read_bad}
+use Rattle.numbers.proofs.FieldLaws.{field_got}
+use Rattle.lists.proofs.ListLaws.{list_counted, list_uncounted}
 use Rattle.lists.proofs.list.keep_at.Statement.{statement}
 use Rattle.lists.proofs.list.keep_at.Tie as tie
 
@@ -16,7 +16,7 @@ start v = v.before.before.before.before.before
 
 count-read : (v : tie.After-value)
     → field_at (start v).args.src.now (start v).args.at 0 ((start v).args.most + 1) ≡ got v.value.given.0.0 v.value.given.0.1.0
-count-read v = read-got (field_at _ _ _ _) _ _ (sym v.value.given.1 ∙ v.before.before.field.ensures)
+count-read v = read_got (field_at _ _ _ _) _ _ (sym v.value.given.1 ∙ v.before.before.field.ensures)
 
 add-field : tie.Need-overflow-add-field
 add-field c = search rules
@@ -34,7 +34,7 @@ keep-rows-requires : tie.Need-keep-rows-requires
 keep-rows-requires c κs =
     let v : tie.After-value = c.before.before in (
       rw (list_counted _ _ _ _ (count-read v)) at (start v).requires.0,
-      omega (arith, field-got _ _ _ _ _ _ (count-read v)),
+      omega (arith, field_got _ _ _ _ _ _ (count-read v)),
     )
 
 enum_told : tie.Need-enum-told
@@ -49,7 +49,7 @@ returns c =
     rw (list_counted _ _ _ _ (count-read v)) c.before.before.keep-rows.ensures
 
 returns-2 : tie.Need-returns-2
-returns-2 c = rw (list-uncounted _ _ _ _ (read-bad (field_at _ _ _ _) _ (sym c.enum_told.given.1 ∙ c.before.before.field.ensures))) refl
+returns-2 c = rw (list_uncounted _ _ _ _ (read_bad (field_at _ _ _ _) _ (sym c.enum_told.given.1 ∙ c.before.before.field.ensures))) refl
 
 pub keep-at-spec : {M : Type 1} → statement M
 keep-at-spec =

@@ -2,7 +2,7 @@
 -- not there is 0.
 use mathlib.Core.Path.{sym, subst}
 use borrow.Author.Rules.{rules}
-use Rattle.lists.proofs.RowKeeping.{OfBytes, cell-found, cell-kept, absent-kept}
+use Rattle.lists.proofs.RowKeeping.{OfBytes, cell_found, cell_kept, absent_kept}
 use Rattle.lists.proofs.list.keep_cell.Statement.{statement}
 use Rattle.lists.proofs.list.keep_cell.Tie as tie
 
@@ -23,7 +23,7 @@ bytes c = subst OfBytes (sym c.before.column.given.1) (search rules)
 keep-number-requires : tie.Need-keep-number-requires
 keep-number-requires c κs =
     let v : tie.After-column = c.before.before in
-    (cell-found _ _ _ (bytes c.before) (start v).requires.0, (start v).requires.1)
+    (cell_found _ _ _ (bytes c.before) (start v).requires.0, (start v).requires.1)
 
 enum-known-column-2 : tie.Need-enum-known-column-2
 enum-known-column-2 c = search rules
@@ -34,7 +34,7 @@ bytes_2 c = subst OfBytes (sym c.before.column2.given.1) (search rules)
 keep-number-requires-2 : tie.Need-keep-number-requires-2
 keep-number-requires-2 c κs =
     let v : tie.After-column2 = c.before.before in
-    (cell-found _ _ _ (bytes_2 c.before) (start-2 v).requires.0, (start-2 v).requires.1)
+    (cell_found _ _ _ (bytes_2 c.before) (start-2 v).requires.0, (start-2 v).requires.1)
 
 enum_told : tie.Need-enum-told
 enum_told c = search rules
@@ -48,7 +48,7 @@ same_length c = search rules
 returns : tie.Need-returns
 returns c =
     let t : tie.After-known-told = c.before.before.before.before in
-    cell-kept _ _ _ (bytes t) (start t.before).requires.0 c.before.before.keep-number.ensures
+    cell_kept _ _ _ (bytes t) (start t.before).requires.0 c.before.before.keep-number.ensures
 
 same-length-2 : tie.Need-same-length-2
 same-length-2 c = search rules
@@ -56,13 +56,13 @@ same-length-2 c = search rules
 returns-2 : tie.Need-returns-2
 returns-2 c =
     let t : tie.After-known-told2 = c.before.before.before.before in
-    cell-kept _ _ _ (bytes_2 t) (start-2 t.before).requires.0 c.before.before.keep-number2.ensures
+    cell_kept _ _ _ (bytes_2 t) (start-2 t.before).requires.0 c.before.before.keep-number2.ensures
 
 same-length-3 : tie.Need-same-length-3
 same-length-3 c = search rules
 
 returns-3 : tie.Need-returns-3
-returns-3 c = absent-kept _ _ c.enum_told.given.1
+returns-3 c = absent_kept _ _ c.enum_told.given.1
 
 pub keep-cell-spec : {M : Type 1} → statement M
 keep-cell-spec =

@@ -4,7 +4,7 @@ use Prim.Native.Nat.{◌<◌}
 use native.Mathlib.Omega.{arith}
 use borrow.Author.Rules.{rules}
 use lib.ListN.{get_or}
-use Rattle.lists.proofs.RowKeeping.{byte-here, byte-read, byte_past}
+use Rattle.lists.proofs.RowKeeping.{byte_here, byte_read, byte_past}
 use Rattle.lists.proofs.list.keep_number.Statement.{statement}
 use Rattle.lists.proofs.list.keep_number.Tie as tie
 
@@ -12,7 +12,7 @@ byte : (c : tie.After-shared-slice-known) → get_or c.before.args.src.now c.bef
 byte c = omega (arith, c.shared-slice-known.given c.before.args.at)
 
 shared-slice-read-b : tie.Need-shared-slice-read-b
-shared-slice-read-b c = byte-here _ _ c.before.requires.0
+shared-slice-read-b c = byte_here _ _ c.before.requires.0
 
 slice-write-dst : tie.Need-slice-write-dst
 slice-write-dst c = search rules
@@ -30,7 +30,7 @@ same_length : tie.Need-same-length
 same_length c = search rules
 
 returns : tie.Need-returns
-returns c = record { value = _; was = byte-read _ _ c.before.requires.0 (byte c); held = refl }
+returns c = record { value = _; was = byte_read _ _ c.before.requires.0 (byte c); held = refl }
 
 pub keep-number-spec : {M : Type 1} → statement M
 keep-number-spec =

@@ -4,7 +4,7 @@
 use Prim.Native.Nat.{◌-◌}
 use native.Mathlib.Omega.{arith}
 use borrow.Author.Rules.{rules}
-use Rattle.lists.proofs.KeepLaws.{Keeping, keep-start, keep-long, keep-found, keep-more, keep-end}
+use Rattle.lists.proofs.KeepLaws.{Keeping, keep_start, keep_long, keep_found, keep_more, keep_end}
 use Rattle.lists.proofs.list.keep_rows.Statement.{statement}
 use Rattle.lists.proofs.list.keep_rows.Tie as tie
 
@@ -22,14 +22,14 @@ abbrev start : tie.After-keep-row-arg invariant-loop decreases-loop → tie.Star
 start r = (turn r).before.before.before
 
 loop-holds : tie.Need-loop-init invariant-loop decreases-loop
-loop-holds c = keep-start (search rules)
+loop-holds c = keep_start (search rules)
 
 mul-keep-row : tie.Need-overflow-mul-keep-row invariant-loop decreases-loop
-mul-keep-row c = omega (arith, keep-long (turn c).loop.invariant)
+mul-keep-row c = omega (arith, keep_long (turn c).loop.invariant)
 
 keep-row-requires : tie.Need-keep-row-requires invariant-loop decreases-loop
 keep-row-requires c κs =
-    (keep-found (turn c).loop.invariant c.before.loop-test.true (start c).requires.0, omega (arith, keep-long (turn c).loop.invariant))
+    (keep_found (turn c).loop.invariant c.before.loop-test.true (start c).requires.0, omega (arith, keep_long (turn c).loop.invariant))
 
 add-i : tie.Need-overflow-add-i invariant-loop decreases-loop
 add-i c = omega arith
@@ -40,13 +40,13 @@ loop-less c = omega arith
 loop-again : tie.Need-loop-preserved invariant-loop decreases-loop
 loop-again c =
     let r : tie.After-keep-row-arg invariant-loop decreases-loop = c.before.before.before in
-    keep-more (turn r).loop.invariant r.before.loop-test.true (start r).requires.0 c.before.before.keep_row.ensures
+    keep_more (turn r).loop.invariant r.before.loop-test.true (start r).requires.0 c.before.before.keep_row.ensures
 
 same_length : tie.Need-same-length invariant-loop decreases-loop
-same_length c = keep-long c.before.loop.invariant
+same_length c = keep_long c.before.loop.invariant
 
 returns : tie.Need-returns invariant-loop decreases-loop
-returns c = keep-end c.before.loop.invariant c.loop-test.false
+returns c = keep_end c.before.loop.invariant c.loop-test.false
 
 pub keep-rows-spec : {M : Type 1} → statement M
 keep-rows-spec =

@@ -1,11 +1,11 @@
--- `numbers::reading::groups` meets its contract: each way out is a law of `groupsAt`. The measure is `left`.
+-- `numbers::reading::groups` meets its contract: each way out is a law of `groups_at`. The measure is `left`.
 use Prim.Native.Nat.{ℕ, ◌<◌}
 use mathlib.Core.Path.{sym, ◌∙◌}
 use native.Mathlib.Omega.{arith}
 use borrow.Fn.Kinds.{In}
 use borrow.Fn.PlainCycle.{Measures, is, falls, and}
 use borrow.Author.Rules.{rules}
-use Rattle.numbers.proofs.NumberLaws.{groups_none, one_less, groups-cut, groups-short, groups-last, groups-more, groups-room}
+use Rattle.numbers.proofs.NumberLaws.{groups_none, one_less, groups_cut, groups_short, groups_last, groups_more, groups_room}
 use Rattle.numbers.proofs.reading.groups.Reads as groups
 use Rattle.numbers.proofs.reading.groups.Kinds as groups-kinds
 use Rattle.numbers.proofs.reading.+groups.Lts-groups as groups-lts
@@ -26,7 +26,7 @@ module _ (t : ℕ) where
   returns c = sym (groups_none _ _ _ _ c.if1.true)
 
   returns-2 : groups-lts.Need-returns-2 (groups-below t, groups.Post) (groups-at t) groups.Post
-  returns-2 c = sym (groups-cut _ _ _ _ _ (one_less c.before.if1.false) c.if2.true)
+  returns-2 c = sym (groups_cut _ _ _ _ _ (one_less c.before.if1.false) c.if2.true)
 
   shared-slice-read-b : groups-lts.Need-shared-slice-read-b (groups-below t, groups.Post) (groups-at t) groups.Post
   shared-slice-read-b c = search rules
@@ -35,13 +35,13 @@ module _ (t : ℕ) where
   cast-b c = omega (arith, c.shared-slice-known2.given c.before.before.before.before.args.at)
 
   returns-3 : groups-lts.Need-returns-3 (groups-below t, groups.Post) (groups-at t) groups.Post
-  returns-3 c = sym (groups-short _ _ _ _ _ (one_less (search)) (search) (search) (search))
+  returns-3 c = sym (groups_short _ _ _ _ _ (one_less (search)) (search) (search) (search))
 
   add-t13 : groups-lts.Need-overflow-add-t13 (groups-below t, groups.Post) (groups-at t) groups.Post
   add-t13 c = search rules
 
   returns-4 : groups-lts.Need-returns-4 (groups-below t, groups.Post) (groups-at t) groups.Post
-  returns-4 c = sym (groups-last _ _ _ _ _ (one_less (search)) (search) (search) (search))
+  returns-4 c = sym (groups_last _ _ _ _ _ (one_less (search)) (search) (search) (search))
 
   add-groups : groups-lts.Need-overflow-add-groups (groups-below t, groups.Post) (groups-at t) groups.Post
   add-groups c = search rules
@@ -58,12 +58,12 @@ module _ (t : ℕ) where
   mul-t18 : groups-lts.Need-overflow-mul-t18 (groups-below t, groups.Post) (groups-at t) groups.Post
   mul-t18 c =
       let called = c.before.before.before.groups.ensures in
-      omega (arith, groups-room _ _ _ _ _ _ (omega arith) (sym called ∙ c.before.value.given.1))
+      omega (arith, groups_room _ _ _ _ _ _ (omega arith) (sym called ∙ c.before.value.given.1))
 
   add-t19 : groups-lts.Need-overflow-add-t19 (groups-below t, groups.Post) (groups-at t) groups.Post
   add-t19 c =
       let called = c.before.before.before.groups.ensures in
-      omega (arith, groups-room _ _ _ _ _ _ (omega arith) (sym called ∙ c.before.value.given.1))
+      omega (arith, groups_room _ _ _ _ _ _ (omega arith) (sym called ∙ c.before.value.given.1))
 
   enum_told : groups-lts.Need-enum-told (groups-below t, groups.Post) (groups-at t) groups.Post
   enum_told c = search rules
@@ -74,17 +74,17 @@ module _ (t : ℕ) where
   returns-5 : groups-lts.Need-returns-5 (groups-below t, groups.Post) (groups-at t) groups.Post
   returns-5 c =
       let called = c.before.before.before.groups.ensures in
-      sym (groups-more _ _ _ _ _ (one_less (search)) (search) (search) (sym c.before.value.given.1 ∙ called))
+      sym (groups_more _ _ _ _ _ (one_less (search)) (search) (search) (sym c.before.value.given.1 ∙ called))
 
   returns-6 : groups-lts.Need-returns-6 (groups-below t, groups.Post) (groups-at t) groups.Post
   returns-6 c =
       let called = c.before.before.groups.ensures in
-      sym (groups-more _ _ _ _ _ (one_less (search)) (search) (search) (sym c.enum_told.given.1 ∙ called))
+      sym (groups_more _ _ _ _ _ (one_less (search)) (search) (search) (sym c.enum_told.given.1 ∙ called))
 
   returns-7 : groups-lts.Need-returns-7 (groups-below t, groups.Post) (groups-at t) groups.Post
   returns-7 c =
       let called = c.before.before.groups.ensures in
-      sym (groups-more _ _ _ _ _ (one_less (search)) (search) (search) (sym c.enum-told2.given.1 ∙ called))
+      sym (groups_more _ _ _ _ _ (one_less (search)) (search) (search) (sym c.enum-told2.given.1 ∙ called))
 
 pub +groups-spec : {M : Type 1} → statement M
 +groups-spec =

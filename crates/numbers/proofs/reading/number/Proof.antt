@@ -4,7 +4,7 @@ use native.Mathlib.Omega.{arith}
 use borrow.Author.Rules.{rules}
 use mathlib.Core.Path.{sym, ap, ◌∙◌}
 use Rattle.numbers.specs.Reading.{read_of}
-use Rattle.numbers.proofs.NumberLaws.{number-groups, number_small}
+use Rattle.numbers.proofs.NumberLaws.{number_groups, number_small}
 use Rattle.numbers.proofs.reading.number.Statement.{statement}
 use Rattle.numbers.proofs.reading.number.Tie as tie
 
@@ -33,13 +33,13 @@ enum-told-2 : tie.Need-enum-told-2
 enum-told-2 c = search rules
 
 returns-2 : tie.Need-returns-2
-returns-2 c = sym (ap read_of (number-groups _ _ (sym c.before.value.given.1 ∙ c.before.before.before.groups.ensures)))
+returns-2 c = sym (ap read_of (number_groups _ _ (sym c.before.value.given.1 ∙ c.before.before.before.groups.ensures)))
 
 returns-3 : tie.Need-returns-3
-returns-3 c = sym (ap read_of (number-groups _ _ (sym c.enum_told.given.1 ∙ c.before.before.groups.ensures)))
+returns-3 c = sym (ap read_of (number_groups _ _ (sym c.enum_told.given.1 ∙ c.before.before.groups.ensures)))
 
 returns-4 : tie.Need-returns-4
-returns-4 c = sym (ap read_of (number-groups _ _ (sym c.enum-told2.given.1 ∙ c.before.before.groups.ensures)))
+returns-4 c = sym (ap read_of (number_groups _ _ (sym c.enum-told2.given.1 ∙ c.before.before.groups.ensures)))
 
 pub number-spec : {M : Type 1} → statement M
 number-spec =

@@ -1,12 +1,12 @@
 -- `numbers::writing::put_number` meets its contract: each way out is a law of what is left in the slice.
 use borrow.Author.Rules.{rules}
 use native.Mathlib.Omega.{arith}
-use Rattle.numbers.proofs.WritingLaws.{put-room, put-big, put_full}
+use Rattle.numbers.proofs.WritingLaws.{put_room, put_big, put_full}
 use Rattle.numbers.proofs.writing.put_number.Statement.{statement}
 use Rattle.numbers.proofs.writing.put_number.Tie as tie
 
 returns : tie.Need-returns
-returns c = put-big _ _ _ c.if1.true
+returns c = put_big _ _ _ c.if1.true
 
 width-requires : tie.Need-width-requires
 width-requires c κs = search rules
@@ -32,7 +32,7 @@ same_length c = search rules
 returns-4 : tie.Need-returns-4
 returns-4 c =
     let after = c.before.before in
-    rw (after.before.before.before.before.width.ensures, after.put.ensures) (put-room _ _ _ (omega arith) (omega arith))
+    rw (after.before.before.before.before.width.ensures, after.put.ensures) (put_room _ _ _ (omega arith) (omega arith))
 
 pub put-number-spec : {M : Type 1} → statement M
 put-number-spec =

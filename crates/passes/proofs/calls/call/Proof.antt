@@ -4,8 +4,8 @@ use native.Mathlib.Omega.{arith}
 use borrow.Author.Rules.{rules}
 use borrow.Author.Tests.{not-true, not-false}
 use Rattle.store.proofs.MarkLaws.{is_true, is_false}
-use Rattle.positions.proofs.Places.{p-stretch, parts}
-use Rattle.uses.proofs.PassLaws.{swept-with, swept-without, flat_line, line_at}
+use Rattle.positions.proofs.Places.{p_stretch, parts}
+use Rattle.uses.proofs.PassLaws.{swept_with, swept_without, flat_line, line_at}
 use Rattle.passes.proofs.calls.call.Statement.{statement}
 use Rattle.passes.proofs.calls.call.Tie as tie
 
@@ -19,7 +19,7 @@ same_length : tie.Need-same-length
 same_length c = search rules
 
 returns : tie.Need-returns
-returns c = swept-without (flat_line _ _ _) _ _ (is_false _ c.before.has.ensures (not-true c.before.has.result c.if1.true))
+returns c = swept_without (flat_line _ _ _) _ _ (is_false _ c.before.has.ensures (not-true c.before.has.result c.if1.true))
 
 p-from-requires : tie.Need-p-from-requires
 p-from-requires c κs = search rules
@@ -28,7 +28,7 @@ line-requires : tie.Need-line-requires
 line-requires c κs =
     let (h, t, b, stretch, room) = c.before.before.before.before.before.before.requires in
     let in-w = parts h in
-    (omega (arith, p-stretch h t b, c.p-from.ensures), omega arith)
+    (omega (arith, p_stretch h t b, c.p-from.ensures), omega arith)
 
 same-length-2 : tie.Need-same-length-2
 same-length-2 c = search rules
@@ -37,7 +37,7 @@ returns-2 : tie.Need-returns-2
 returns-2 c =
     let last = c.before.before in
     let at = last.before.before.before.before in
-    swept-with (flat_line _ _ _) _
+    swept_with (flat_line _ _ _) _
     (is_true _ at.has.ensures (not-false at.has.result last.before.before.before.if1.false))
     (line_at last.before.p-from.ensures refl last.line.ensures)
 

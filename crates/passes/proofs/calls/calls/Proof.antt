@@ -6,7 +6,7 @@ use borrow.Author.Rules.{rules}
 use Rattle.uses.specs.Uses.{Upto}
 use Rattle.uses.specs.Passing.{Swept}
 use Rattle.uses.specs.RuleUses.{CallUse}
-use Rattle.uses.proofs.PassLaws.{swept-room, swept_of, upto-none, upto_next}
+use Rattle.uses.proofs.PassLaws.{swept_room, swept_of, upto_none, upto_next}
 use Rattle.passes.proofs.calls.calls.Statement.{statement}
 use Rattle.passes.proofs.calls.calls.Tie as tie
 
@@ -20,13 +20,13 @@ abbrev start : tie.At-loop invariant-loop decreases-loop → tie.Start invariant
 start c = c.before.before
 
 loop-holds : tie.Need-loop-init invariant-loop decreases-loop
-loop-holds c = (omega arith, upto-none _)
+loop-holds c = (omega arith, upto_none _)
 
 call-requires : tie.Need-call-requires invariant-loop decreases-loop
 call-requires c κs =
     let at = c.before.before in
     let (h, t, stretch, room) = (start at).requires in
-    (h, t, c.before.loop-test.true, stretch, omega (arith, swept-room at.loop.invariant.1))
+    (h, t, c.before.loop-test.true, stretch, omega (arith, swept_room at.loop.invariant.1))
 
 add-b : tie.Need-overflow-add-b invariant-loop decreases-loop
 add-b c = search rules
@@ -38,7 +38,7 @@ loop-again : tie.Need-loop-preserved invariant-loop decreases-loop
 loop-again c = let at = c.before.before in (omega arith, upto_next _ at.before.before.before.loop.invariant.1 at.call.ensures)
 
 same_length : tie.Need-same-length invariant-loop decreases-loop
-same_length c = swept-room c.before.loop.invariant.1
+same_length c = swept_room c.before.loop.invariant.1
 
 returns : tie.Need-returns invariant-loop decreases-loop
 returns c =

@@ -5,14 +5,14 @@ use borrow.Author.Rules.{rules}
 use borrow.Author.Tests.{not-true, not-false}
 use Rattle.store.proofs.MarkLaws.{is_true, is_false}
 use Rattle.positions.proofs.Places.{cut}
-use Rattle.passes.proofs.GuaranteeLaws.{moved-any, moved-nobody}
+use Rattle.passes.proofs.GuaranteeLaws.{moved_any, moved_nobody}
 use Rattle.passes.proofs.guarantees.guarantee.Statement.{statement}
 use Rattle.passes.proofs.guarantees.guarantee.Tie as tie
 
 -- the l facts that end at either shared store are in the stretch
 ends : (c : tie.Start) → let a = c.args in let s = a.s in
     (a.from * s.l + s.l ≤ s.k) × (a.to * s.l + s.l ≤ s.k) × (s.k ≤ 256) × (s.w ≤ 2360320)
-ends c = let (h, from, to, stretch, room) = c.requires in (cut h _ from, cut h _ to, h.k-max, h.w-max)
+ends c = let (h, from, to, stretch, room) = c.requires in (cut h _ from, cut h _ to, h.k_max, h.w_max)
 
 one-acts-requires : tie.Need-one-acts-requires
 one-acts-requires c κs = search rules
@@ -23,7 +23,7 @@ same_length c = search rules
 returns : tie.Need-returns
 returns c =
     let a = c.before.before.before.before.args in
-    moved-nobody a.s a.t a.x a.from a.to _
+    moved_nobody a.s a.t a.x a.from a.to _
     (is_false _ c.before.one-acts.ensures (not-true c.before.one-acts.result c.if1.true))
 
 mul-line : tie.Need-overflow-mul-line
@@ -53,7 +53,7 @@ returns-2 c =
     let last = c.before.before in
     let test = last.before.before in
     let a = test.before.before.before.before.args in
-    moved-any a.s a.t a.x a.from a.to
+    moved_any a.s a.t a.x a.from a.to
     (is_true _ test.before.one-acts.ensures (not-false test.before.one-acts.result test.if1.false))
     last.line.ensures
 

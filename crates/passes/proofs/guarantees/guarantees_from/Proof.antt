@@ -8,8 +8,8 @@ use Rattle.store.proofs.MarkLaws.{is_false}
 use Rattle.uses.specs.Uses.{Upto}
 use Rattle.uses.specs.Passing.{Swept}
 use Rattle.uses.specs.RuleUses.{MovedTo}
-use Rattle.uses.proofs.PassLaws.{swept-room, swept_of, swept-empty, upto-none, upto_next}
-use Rattle.uses.proofs.Premises.{moved-from-in}
+use Rattle.uses.proofs.PassLaws.{swept_room, swept_of, swept_empty, upto_none, upto_next}
+use Rattle.uses.proofs.Premises.{moved_from_in}
 use Rattle.passes.proofs.guarantees.guarantees_from.Statement.{statement}
 use Rattle.passes.proofs.guarantees.guarantees_from.Tie as tie
 
@@ -31,17 +31,17 @@ same_length c = search rules
 returns : tie.Need-returns invariant-loop decreases-loop
 returns c =
     let a = c.before.before.before.before.args in
-    swept-empty _ _ (λ q z y u hq hz. moved-from-in a.mem.now a.s a.t a.x a.from u hz)
+    swept_empty _ _ (λ q z y u hq hz. moved_from_in a.mem.now a.s a.t a.x a.from u hz)
     (is_false _ c.before.ends_at.ensures (not-true c.before.ends_at.result c.if1.true))
 
 loop-holds : tie.Need-loop-init invariant-loop decreases-loop
-loop-holds c = (omega arith, upto-none _)
+loop-holds c = (omega arith, upto_none _)
 
 guarantee-requires : tie.Need-guarantee-requires invariant-loop decreases-loop
 guarantee-requires c κs =
     let at = c.before.before in
     let (h, from, stretch, room) = (start at).requires in
-    (h, from, c.before.loop-test.true, stretch, omega (arith, swept-room at.loop.invariant.1))
+    (h, from, c.before.loop-test.true, stretch, omega (arith, swept_room at.loop.invariant.1))
 
 add-to : tie.Need-overflow-add-to invariant-loop decreases-loop
 add-to c = search rules
@@ -53,7 +53,7 @@ loop-again : tie.Need-loop-preserved invariant-loop decreases-loop
 loop-again c = let at = c.before.before in (omega arith, upto_next _ at.before.before.before.loop.invariant.1 at.guarantee.ensures)
 
 same-length-2 : tie.Need-same-length-2 invariant-loop decreases-loop
-same-length-2 c = swept-room c.before.loop.invariant.1
+same-length-2 c = swept_room c.before.loop.invariant.1
 
 returns-2 : tie.Need-returns-2 invariant-loop decreases-loop
 returns-2 c =

@@ -6,7 +6,7 @@ use borrow.Author.Rules.{rules}
 use Rattle.store.specs.Marking.{Among}
 use Rattle.store.proofs.MarkLaws.{is_true, is_false}
 use Rattle.passes.specs.Acting.{Acts}
-use Rattle.store.proofs.FoundLaws.{none-among, none-among-more}
+use Rattle.store.proofs.FoundLaws.{none_among, none_among_more}
 use Rattle.passes.proofs.guarantees.one_acts.Statement.{statement}
 use Rattle.passes.proofs.guarantees.one_acts.Tie as tie
 
@@ -17,7 +17,7 @@ abbrev decreases-loop : tie.decreases-loop
 decreases-loop s t from to mem n e₀ e = n - e
 
 loop-holds : tie.Need-loop-init invariant-loop decreases-loop
-loop-holds c = (omega arith, none-among)
+loop-holds c = (omega arith, none_among)
 
 acts-requires : tie.Need-acts-requires invariant-loop decreases-loop
 acts-requires c κs = search rules
@@ -38,7 +38,7 @@ loop-less c = search rules
 
 loop-again : tie.Need-loop-preserved invariant-loop decreases-loop
 loop-again c =
-    (omega arith, none-among-more c.before.before.before.loop.invariant.1 (is_false _ c.before.acts.ensures c.if1.false))
+    (omega arith, none_among_more c.before.before.before.loop.invariant.1 (is_false _ c.before.acts.ensures c.if1.false))
 
 returns-2 : tie.Need-returns-2 invariant-loop decreases-loop
 returns-2 c =

@@ -5,7 +5,7 @@ use native.Mathlib.Omega.{arith}
 use borrow.Author.Rules.{rules}
 use Rattle.positions.specs.declared.plan.Plan.{Plan}
 use Rattle.store.specs.declared.rows.Row.{Row}
-use Rattle.positions.specs.Plans.{pair, pFrom, qFrom}
+use Rattle.positions.specs.Plans.{pair, p_from, q_from}
 use Rattle.uses.proofs.PassLaws.{one_at}
 use Rattle.passes.proofs.pushes_and_pops.pop.Statement.{statement}
 use Rattle.passes.proofs.pushes_and_pops.pop.Tie as tie
@@ -27,10 +27,10 @@ module _ (c : tie.After-one-arg) where
 
   -- the stretches of both ends
   abbrev from : ℕ
-  from = qFrom s start.args.t start.args.a + r.u * s.k
+  from = q_from s start.args.t start.args.a + r.u * s.k
 
   abbrev to : ℕ
-  to = pFrom s start.args.t start.args.a
+  to = p_from s start.args.t start.args.a
 
   x-is : c.before.before.before.q-position.result ≡ from + pair s r.g r.l
   x-is = let at = c.before.before.before in omega (arith, at.q-position.ensures.0, at.before.pair_of.ensures.0)

@@ -5,9 +5,9 @@ use native.Mathlib.Omega.{arith}
 use borrow.Author.Rules.{rules}
 use Rattle.positions.specs.declared.plan.Plan.{Plan}
 use Rattle.store.specs.declared.rows.Row.{Row}
-use Rattle.positions.specs.Plans.{pair, pFrom, qFrom}
+use Rattle.positions.specs.Plans.{pair, p_from, q_from}
 use Rattle.uses.specs.RuleUses.{place_of}
-use Rattle.uses.proofs.PassLaws.{swept-room, and_then, one_at}
+use Rattle.uses.proofs.PassLaws.{swept_room, and_then, one_at}
 use Rattle.passes.proofs.pushes_and_pops.push.Statement.{statement}
 use Rattle.passes.proofs.pushes_and_pops.push.Tie as tie
 
@@ -32,13 +32,13 @@ module _ (c : tie.After-one-arg) where
   x-is : c.before.before.before.p-position.result ≡ place_of s start.args.t start.args.a r
   x-is =
       let at = c.before.before.before in
-      at.p-position.ensures.0 ∙ ap (λ z. pFrom s start.args.t start.args.a + z) at.before.pair-of2.ensures.0
+      at.p-position.ensures.0 ∙ ap (λ z. p_from s start.args.t start.args.a + z) at.before.pair-of2.ensures.0
 
-  y-is : c.before.before.q-position.result ≡ qFrom s start.args.t start.args.a + r.v * s.k + pair s r.g r.u
-  y-is = c.before.before.q-position.ensures.0 ∙ ap (λ z. qFrom s start.args.t start.args.a + r.v * s.k + z) d-is
+  y-is : c.before.before.q-position.result ≡ q_from s start.args.t start.args.a + r.v * s.k + pair s r.g r.u
+  y-is = c.before.before.q-position.ensures.0 ∙ ap (λ z. q_from s start.args.t start.args.a + r.v * s.k + z) d-is
 
-  z-is : c.before.p-position2.result ≡ pFrom s start.args.t (pair s r.g r.u) + pair s r.g r.u
-  z-is = c.before.p-position2.ensures.0 ∙ ap (λ z. pFrom s start.args.t z + z) d-is
+  z-is : c.before.p-position2.result ≡ p_from s start.args.t (pair s r.g r.u) + pair s r.g r.u
+  z-is = c.before.p-position2.ensures.0 ∙ ap (λ z. p_from s start.args.t z + z) d-is
 
 cast-g : tie.Need-overflow-cast-g
 cast-g c = search rules
@@ -74,7 +74,7 @@ one-requires-2 : tie.Need-one-requires-2
 one-requires-2 c κs =
     let first = c.before.before.before in
     let room = (start first.before).pre.4 in
-    let e = swept-room first.one.ensures in
+    let e = swept_room first.one.ensures in
     let z = first.before.before.p-position2.ensures.1 in
     let x = first.before.before.before.before.p-position.ensures.1 in
     (omega arith, omega arith)

@@ -5,7 +5,7 @@ use native.Mathlib.Omega.{arith}
 use borrow.Author.Rules.{rules}
 use Rattle.uses.specs.Passing.{Swept}
 use Rattle.uses.specs.RuleUses.{KindIn, RowUse, RowUses}
-use Rattle.uses.proofs.PassLaws.{swept-room, swept_of, upto-none, upto_next}
+use Rattle.uses.proofs.PassLaws.{swept_room, swept_of, upto_none, upto_next}
 use Rattle.passes.proofs.pushes_and_pops.rows_of.Statement.{statement}
 use Rattle.passes.proofs.pushes_and_pops.rows_of.Tie as tie
 
@@ -19,7 +19,7 @@ abbrev start : tie.At-loop invariant-loop decreases-loop → tie.Start invariant
 start c = c.before.before.before
 
 loop-holds : tie.Need-loop-init invariant-loop decreases-loop
-loop-holds c = (omega arith, upto-none _)
+loop-holds c = (omega arith, upto_none _)
 
 row-at-requires : tie.Need-row-at-requires invariant-loop decreases-loop
 row-at-requires c κs = omega (arith, (start c.before).pre.3.long)
@@ -27,13 +27,13 @@ row-at-requires c κs = omega (arith, (start c.before).pre.3.long)
 row-requires : tie.Need-row-requires invariant-loop decreases-loop
 row-requires c κs =
     let test = c.before.before in
-    let (h, t, a, in-range, room) = (start test.before).pre in
+    let (h, t, a, in_range, room) = (start test.before).pre in
     let given = (start test.before).args in (
       h,
       t,
       a,
-      subst (KindIn given.kind given.s) (sym c.before.row_at.ensures) (in-range.fit _ test.loop-test.true),
-      omega (arith, swept-room test.before.loop.invariant.1),
+      subst (KindIn given.kind given.s) (sym c.before.row_at.ensures) (in_range.fit _ test.loop-test.true),
+      omega (arith, swept_room test.before.loop.invariant.1),
     )
 
 add-i : tie.Need-overflow-add-i invariant-loop decreases-loop
@@ -51,7 +51,7 @@ loop-again c =
     (omega arith, upto_next _ head.loop.invariant.1 (swept_of (RowUse a.kind a.s a.t a.a) at.row_at.ensures last.row.ensures))
 
 same_length : tie.Need-same-length invariant-loop decreases-loop
-same_length c = swept-room c.before.loop.invariant.1
+same_length c = swept_room c.before.loop.invariant.1
 
 returns : tie.Need-returns invariant-loop decreases-loop
 returns c =

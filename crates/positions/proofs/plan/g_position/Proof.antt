@@ -2,12 +2,12 @@
 use Prim.Native.Nat.{◌+◌, ◌*◌, ◌≤◌}
 use native.Mathlib.Omega.{arith}
 use borrow.Author.Rules.{rules}
-use Rattle.positions.proofs.Places.{g-small}
+use Rattle.positions.proofs.Places.{g_small}
 use Rattle.positions.proofs.plan.g_position.Statement.{statement}
 use Rattle.positions.proofs.plan.g_position.Tie as tie
 
 sizes : (c : tie.Start) → let s = c.args.s in (c.args.t * s.g ≤ 64) × ((c.args.t * s.g + c.args.g) * s.g ≤ 1280)
-sizes c = g-small c.requires.0 c.requires.1 c.requires.2
+sizes c = g_small c.requires.0 c.requires.1 c.requires.2
 
 mul-result : tie.Need-overflow-mul-result
 mul-result c = omega (arith, sizes c.before)

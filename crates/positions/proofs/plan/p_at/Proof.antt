@@ -2,12 +2,12 @@
 use Prim.Native.Nat.{◌*◌, ◌≤◌}
 use native.Mathlib.Omega.{arith}
 use borrow.Author.Rules.{rules}
-use Rattle.positions.proofs.Places.{p-small, parts}
+use Rattle.positions.proofs.Places.{p_small, parts}
 use Rattle.positions.proofs.plan.p_at.Statement.{statement}
 use Rattle.positions.proofs.plan.p_at.Tie as tie
 
 sizes : (c : tie.Start) → let s = c.args.s in ((c.args.t * s.k ≤ 1024) × (c.args.t * s.k * s.k ≤ 262144)) × ((s.p ≤ s.q) × (s.q ≤ s.w))
-sizes c = (p-small c.requires.0 c.requires.1, parts c.requires.0)
+sizes c = (p_small c.requires.0 c.requires.1, parts c.requires.0)
 
 mul-result : tie.Need-overflow-mul-result
 mul-result c = omega (arith, sizes c.before)

@@ -3,14 +3,14 @@ use mathlib.Core.Path.{ap}
 use Prim.Native.Nat.{◌+◌, ◌≤◌, ◌<◌}
 use native.Mathlib.Omega.{arith}
 use borrow.Author.Rules.{rules}
-use Rattle.files.specs.Table.{mostFacts}
-use Rattle.positions.specs.Plans.{pFrom}
-use Rattle.positions.proofs.Places.{p-lt}
+use Rattle.files.specs.Table.{most_facts}
+use Rattle.positions.specs.Plans.{p_from}
+use Rattle.positions.proofs.Places.{p_lt}
 use Rattle.positions.proofs.plan.p_position.Statement.{statement}
 use Rattle.positions.proofs.plan.p_position.Tie as tie
 
-below : (c : tie.Start) → let a = c.args in (pFrom a.s a.t a.a + a.c < a.s.w) × (a.s.w ≤ mostFacts)
-below c = let (h, t, a, d) = c.requires in (p-lt h t a d, h.w-max)
+below : (c : tie.Start) → let a = c.args in (p_from a.s a.t a.a + a.c < a.s.w) × (a.s.w ≤ most_facts)
+below c = let (h, t, a, d) = c.requires in (p_lt h t a d, h.w_max)
 
 p-from-requires : tie.Need-p-from-requires
 p-from-requires c κs = search rules

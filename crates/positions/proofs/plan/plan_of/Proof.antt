@@ -49,14 +49,14 @@ returns c =
         q = refl;
         w = refl;
         n_pos = h.0;
-        g-pos = h.2;
-        l-pos = h.4;
-        n-max = h.1;
-        g-max = h.3;
-        l-max = h.5;
-        f-max = h.6;
-        k-max = z.k;
-        w-max = omega arith;
+        g_pos = h.2;
+        l_pos = h.4;
+        n_max = h.1;
+        g_max = h.3;
+        l_max = h.5;
+        f_max = h.6;
+        k_max = z.k;
+        w_max = omega arith;
       },
     )
 

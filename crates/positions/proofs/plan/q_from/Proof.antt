@@ -2,14 +2,14 @@
 use Prim.Native.Nat.{◌+◌, ◌*◌, ◌≤◌}
 use native.Mathlib.Omega.{arith}
 use borrow.Author.Rules.{rules}
-use Rattle.positions.proofs.Places.{stretch-small, parts}
+use Rattle.positions.proofs.Places.{stretch_small, parts}
 use Rattle.positions.proofs.plan.q_from.Statement.{statement}
 use Rattle.positions.proofs.plan.q_from.Tie as tie
 
 sizes : (c : tie.Start) → let s = c.args.s in
     (c.args.t * s.k ≤ 1024) × (s.f * s.k ≤ 2048) × ((c.args.t * s.k + c.args.a) * (s.f * s.k) ≤ 2621440) × (s.q ≤ s.w)
 sizes c =
-    let r = stretch-small c.requires.0 c.requires.1 c.requires.2 in
+    let r = stretch_small c.requires.0 c.requires.1 c.requires.2 in
     (r.0, r.2, r.3, omega (arith, parts c.requires.0))
 
 mul-result : tie.Need-overflow-mul-result

@@ -3,14 +3,14 @@ use mathlib.Core.Path.{ap}
 use Prim.Native.Nat.{◌+◌, ◌*◌, ◌≤◌, ◌<◌}
 use native.Mathlib.Omega.{arith}
 use borrow.Author.Rules.{rules}
-use Rattle.files.specs.Table.{mostFacts}
-use Rattle.positions.specs.Plans.{qFrom}
-use Rattle.positions.proofs.Places.{q-lt}
+use Rattle.files.specs.Table.{most_facts}
+use Rattle.positions.specs.Plans.{q_from}
+use Rattle.positions.proofs.Places.{q_lt}
 use Rattle.positions.proofs.plan.q_position.Statement.{statement}
 use Rattle.positions.proofs.plan.q_position.Tie as tie
 
-below : (c : tie.Start) → let a = c.args in (qFrom a.s a.t a.a + a.f * a.s.k + a.c < a.s.w) × (a.s.w ≤ mostFacts)
-below c = let (h, t, a, f, d) = c.requires in (q-lt h t a f d, h.w-max)
+below : (c : tie.Start) → let a = c.args in (q_from a.s a.t a.a + a.f * a.s.k + a.c < a.s.w) × (a.s.w ≤ most_facts)
+below c = let (h, t, a, f, d) = c.requires in (q_lt h t a f d, h.w_max)
 
 q-from-requires : tie.Need-q-from-requires
 q-from-requires c κs = search rules

@@ -4,17 +4,17 @@ use Prim.Native.Nat.{◌-◌}
 use native.Mathlib.Omega.{arith}
 use borrow.Author.Rules.{rules}
 use Rattle.store.proofs.MarkLaws.{is_true, is_false}
-use Rattle.reaching.specs.Reaching.{rowCell, no-failed, picked, unfit, fit}
-use Rattle.reaching.proofs.CellLaws.{cell-eq, shared-cell}
+use Rattle.reaching.specs.Reaching.{row_cell, no_failed, picked, unfit, fit}
+use Rattle.reaching.proofs.CellLaws.{cell_eq, shared_cell}
 use Rattle.reaching.proofs.cells.aim.Statement.{statement}
 use Rattle.reaching.proofs.cells.aim.Tie as tie
 
 -- the cell that is read is the row's shared cell
-is_shared : (c : tie.After-cell) → let a = c.before.before.before.before.args in c.cell.result ≡ rowCell a.rows.now (a.row - 1) 0
-is_shared c = let a = c.before.before.before.before.args in c.cell.ensures ∙ shared-cell a.rows.now (a.row - 1)
+is_shared : (c : tie.After-cell) → let a = c.before.before.before.before.args in c.cell.result ≡ row_cell a.rows.now (a.row - 1) 0
+is_shared c = let a = c.before.before.before.before.args in c.cell.ensures ∙ shared_cell a.rows.now (a.row - 1)
 
 returns : tie.Need-returns
-returns c = no-failed c.before.if1.true c.if2.true refl
+returns c = no_failed c.before.if1.true c.if2.true refl
 
 sub-pick : tie.Need-overflow-sub-pick
 sub-pick c = search rules
@@ -42,13 +42,13 @@ cell-fits-requires c κs = search rules
 returns-3 : tie.Need-returns-3
 returns-3 c =
     let row = c.before.before.before.before.before.before.args.row in
-    fit (row - 1) (omega arith) (cell-eq (sym (is_shared c.before.before)) (is_true _ c.before.cell-fits.ensures c.if3.true)) refl
+    fit (row - 1) (omega arith) (cell_eq (sym (is_shared c.before.before)) (is_true _ c.before.cell-fits.ensures c.if3.true)) refl
 
 returns-4 : tie.Need-returns-4
 returns-4 c =
     let row = c.before.before.before.before.before.before.args.row in
     unfit (row - 1) (omega arith)
-    (λ h. is_false _ c.before.cell-fits.ensures c.if3.false (cell-eq (is_shared c.before.before) h)) refl
+    (λ h. is_false _ c.before.cell-fits.ensures c.if3.false (cell_eq (is_shared c.before.before) h)) refl
 
 pub aim-spec : {M : Type 1} → statement M
 aim-spec =

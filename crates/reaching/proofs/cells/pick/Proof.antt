@@ -7,8 +7,8 @@ use native.Mathlib.Omega.{arith}
 use borrow.Author.Rules.{rules}
 use Rattle.model.specs.Claims.{First}
 use Rattle.reaching.specs.Reaching.{Reached, Last, nowhere, already, forced}
-use Rattle.reaching.proofs.Numbers.{none_more, last-not}
-use Rattle.reaching.proofs.Reaching.{any-is-first, any-not-first}
+use Rattle.reaching.proofs.Numbers.{none_more, last_not}
+use Rattle.reaching.proofs.Reaching.{any_is_first, any_not_first}
 use Rattle.reaching.proofs.cells.pick.Statement.{statement}
 use Rattle.reaching.proofs.cells.pick.Tie as tie
 
@@ -33,7 +33,7 @@ least-requires c κs = search rules
 returns : tie.Need-returns invariant-loop decreases-loop
 returns c =
     let start = c.before.before.before.before.before.before.before in
-    already c.before.before.before.before.loop-test.true (any-is-first c.before.least.ensures c.if2.true start.requires.3)
+    already c.before.before.before.before.loop-test.true (any_is_first c.before.least.ensures c.if2.true start.requires.3)
     c.before.before.before.before.before.loop.invariant.1
 
 add-t : tie.Need-overflow-add-t invariant-loop decreases-loop
@@ -48,7 +48,7 @@ loop-again c =
     let head = c.before.before.before in (
       omega arith,
       none_more head.loop.invariant.1
-          (⊎_elim (λ w. any-not-first w.1.ensures w.2.left) (λ w f. last-not last w.left f.here) c.if1.branch),
+          (⊎_elim (λ w. any_not_first w.1.ensures w.2.left) (λ w f. last_not last w.left f.here) c.if1.branch),
       last,
     )
 

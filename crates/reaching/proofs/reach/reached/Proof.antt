@@ -6,9 +6,9 @@ use borrow.Author.Rules.{rules}
 use Rattle.positions.specs.Plans.{p_at, pair}
 use Rattle.store.specs.Marking.{Has}
 use Rattle.store.proofs.MarkLaws.{is_true, is_false}
-use Rattle.positions.proofs.Places.{p-line, ck-small, parts}
+use Rattle.positions.proofs.Places.{p_line, ck_small, parts}
 use Rattle.reaching.proofs.Numbers.{none_more}
-use Rattle.reaching.proofs.Reaching.{mark-reached, no-mark-reached}
+use Rattle.reaching.proofs.Reaching.{mark_reached, no_mark_reached}
 use Rattle.reaching.proofs.reach.reached.Statement.{statement}
 use Rattle.reaching.proofs.reach.reached.Tie as tie
 
@@ -28,7 +28,7 @@ inside : (c : tie.In-loop invariant-loop decreases-loop) → let s = c.before.be
     c.before.before.p-at.result + c.before.loop.j * s.k < s.w
 inside c =
     let h = c.before.before.before.before.before.requires in
-    let line = p-line h.0 h.2 c.before.before.before.pair_of.ensures.1 c.loop-test.true in
+    let line = p_line h.0 h.2 c.before.before.before.pair_of.ensures.1 c.loop-test.true in
     omega (arith, parts h.0, c.before.before.p-at.ensures)
 
 pair-of-requires : tie.Need-pair-of-requires invariant-loop decreases-loop
@@ -41,10 +41,10 @@ loop-holds : tie.Need-loop-init invariant-loop decreases-loop
 loop-holds c = (omega arith, λ i l. absurd (omega arith))
 
 mul-has : tie.Need-overflow-mul-has invariant-loop decreases-loop
-mul-has c = omega (arith, ck-small c.before.before.before.before.before.requires.0 c.loop-test.true)
+mul-has c = omega (arith, ck_small c.before.before.before.before.before.requires.0 c.loop-test.true)
 
 add-has : tie.Need-overflow-add-has invariant-loop decreases-loop
-add-has c = omega (arith, inside c, c.before.before.before.before.before.requires.0.w-max)
+add-has c = omega (arith, inside c, c.before.before.before.before.before.requires.0.w_max)
 
 has-requires : tie.Need-has-requires invariant-loop decreases-loop
 has-requires c κs = omega (arith, inside c)
@@ -52,7 +52,7 @@ has-requires c κs = omega (arith, inside c)
 returns : tie.Need-returns invariant-loop decreases-loop
 returns c =
     let now = c.before.before.before in
-    mark-reached now.before.p-at.result (begins now.before) now.loop.j now.before.before.before.before.requires.4
+    mark_reached now.before.p-at.result (begins now.before) now.loop.j now.before.before.before.before.requires.4
     c.before.before.loop-test.true (is_true _ c.before.has.ensures c.if1.true)
 
 add-j : tie.Need-overflow-add-j invariant-loop decreases-loop
@@ -67,7 +67,7 @@ loop-again c = (omega arith, none_more c.before.before.before.loop.invariant.1 (
 returns-2 : tie.Need-returns-2 invariant-loop decreases-loop
 returns-2 c =
     let now = c.before in
-    no-mark-reached now.before.p-at.result (begins now.before) now.loop.j (omega arith) now.loop.invariant.1
+    no_mark_reached now.before.p-at.result (begins now.before) now.loop.j (omega arith) now.loop.invariant.1
 
 pub reached-spec : {M : Type 1} → statement M
 reached-spec =

@@ -1,4 +1,4 @@
--- `reader::ends::end_after` meets its contract: after a part that was read it is `end_at`, and else the part's refusal.
+-- `reader::ends::end_after_lem` meets its contract: after a part that was read it is `end_at`, and else the part's refusal.
 use borrow.Author.Rules.{rules}
 use Rattle.reader.proofs.ends.end_after.Statement.{statement}
 use Rattle.reader.proofs.ends.end_after.Tie as tie

@@ -1,4 +1,4 @@
--- `reader::fields::ranged` meets its contract: its two tests are those of `rangedOf`.
+-- `reader::fields::ranged` meets its contract: its two tests are those of `ranged_of`.
 use borrow.Author.Rules.{rules}
 use borrow.Author.Tests.{lt-ltb, le-ltb}
 use Rattle.reader.proofs.fields.ranged.Statement.{statement}

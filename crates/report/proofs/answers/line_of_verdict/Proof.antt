@@ -1,4 +1,4 @@
--- `report::answers::line_of_verdict` meets its contract: each arm writes what `lineOfVerdict` says for its case.
+-- `report::answers::line_of_verdict` meets its contract: each arm writes what `line_of_verdict` says for its case.
 use borrow.Author.Rules.{rules}
 use Rattle.report.proofs.answers.line_of_verdict.Statement.{statement}
 use Rattle.report.proofs.answers.line_of_verdict.Tie as tie

@@ -4,7 +4,7 @@ use borrow.Author.Rules.{rules}
 use Rattle.numbers.specs.Reading.{got}
 use Rattle.files.specs.Header.{header_at}
 use Rattle.report.specs.Listed.{read, refused}
-use Rattle.report.proofs.ListedLaws.{was_read, was-refused, header-sizes}
+use Rattle.report.proofs.ListedLaws.{was_read, was_refused, header_sizes}
 use Rattle.report.proofs.facts.next_fact.Statement.{statement}
 use Rattle.report.proofs.facts.next_fact.Tie as tie
 
@@ -20,7 +20,7 @@ enum_told : tie.Need-enum-told
 enum_told c = search rules
 
 plan-by-requires : tie.Need-plan-by-requires
-plan-by-requires c κs = header-sizes _ (reads c)
+plan-by-requires c κs = header_sizes _ (reads c)
 
 next-in-requires : tie.Need-next-in-requires
 next-in-requires c κs = search rules
@@ -34,7 +34,7 @@ returns c =
     read (reads plan.before) (c.next-in.ensures _ plan.plan-by.ensures.0)
 
 returns-2 : tie.Need-returns-2
-returns-2 c = refused (was-refused (header_at _) c.before.before.before.before.read-header.ensures c.enum-told2.given.1)
+returns-2 c = refused (was_refused (header_at _) c.before.before.before.before.read-header.ensures c.enum-told2.given.1)
 
 pub next-fact-spec : {M : Type 1} → statement M
 next-fact-spec =

@@ -3,7 +3,7 @@
 use Prim.Native.Nat.{◌-◌}
 use native.Mathlib.Omega.{arith}
 use lib.ListN.{length}
-use Rattle.store.proofs.ClearLaws.{Clearing, clear-start, clear-more, clear-end}
+use Rattle.store.proofs.ClearLaws.{Clearing, clear_start, clear_more, clear_end}
 use Rattle.store.proofs.marks.clear.Statement.{statement}
 use Rattle.store.proofs.marks.clear.Tie as tie
 
@@ -14,7 +14,7 @@ abbrev decreases-loop : tie.decreases-loop
 decreases-loop mem₀ i₀ mem i = length mem₀ - i
 
 loop-holds : tie.Need-loop-init invariant-loop decreases-loop
-loop-holds c = clear-start
+loop-holds c = clear_start
 
 slice-write-mem : tie.Need-slice-write-mem invariant-loop decreases-loop
 slice-write-mem c = omega arith
@@ -26,13 +26,13 @@ loop-less : tie.Need-loop-smaller invariant-loop decreases-loop
 loop-less c = omega arith
 
 loop-again : tie.Need-loop-preserved invariant-loop decreases-loop
-loop-again c = clear-more c.before.loop.invariant c.loop-test.true
+loop-again c = clear_more c.before.loop.invariant c.loop-test.true
 
 same_length : tie.Need-same-length invariant-loop decreases-loop
 same_length c = c.before.loop.invariant.long
 
 returns : tie.Need-returns invariant-loop decreases-loop
-returns c = clear-end c.before.loop.invariant c.loop-test.false
+returns c = clear_end c.before.loop.invariant c.loop-test.false
 
 pub clear_spec : {M : Type 1} → statement M
 clear_spec =

@@ -5,7 +5,7 @@ use borrow.Author.Rules.{rules}
 use native.Mathlib.Omega.{arith}
 use lib.ListN.{length, take, replicate, length-take}
 use lib.Seq.{length-take-le}
-use Rattle.store.proofs.MarkLaws.{first-cleared}
+use Rattle.store.proofs.MarkLaws.{first_cleared}
 use Rattle.store.proofs.marks.clear_first.Statement.{statement}
 use Rattle.store.proofs.marks.clear_first.Tie as tie
 
@@ -31,7 +31,7 @@ same_length c = search rules
 returns : tie.Need-returns
 returns c =
     let called = c.before.before in
-    first-cleared _ _ (called.clear.ensures ∙ ap (λ (k : ℕ). replicate k 0) (part-long called.before))
+    first_cleared _ _ (called.clear.ensures ∙ ap (λ (k : ℕ). replicate k 0) (part-long called.before))
 
 pub clear-first-spec : {M : Type 1} → statement M
 clear-first-spec =

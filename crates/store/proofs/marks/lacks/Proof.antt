@@ -5,7 +5,7 @@ use native.Mathlib.Omega.{arith}
 use borrow.Author.Rules.{rules}
 use Rattle.model.specs.Memory.{Says}
 use Rattle.store.specs.Marking.{LacksIn}
-use Rattle.store.proofs.FoundLaws.{says_is, among_none, lacks-next}
+use Rattle.store.proofs.FoundLaws.{says_is, among_none, lacks_next}
 use Rattle.store.proofs.marks.lacks.Statement.{statement}
 use Rattle.store.proofs.marks.lacks.Tie as tie
 
@@ -43,7 +43,7 @@ loop-less : tie.Need-loop-smaller invariant-loop decreases-loop
 loop-less c = search rules
 
 loop-again : tie.Need-loop-preserved invariant-loop decreases-loop
-loop-again c = (omega arith, lacks-next _ _ _ c.before.before.before.loop.invariant.1)
+loop-again c = (omega arith, lacks_next _ _ _ c.before.before.before.loop.invariant.1)
 
 returns : tie.Need-returns invariant-loop decreases-loop
 returns c =

@@ -3,7 +3,7 @@ use Prim.Native.Nat.{◌-◌}
 use native.Mathlib.Omega.{arith}
 use borrow.Author.Rules.{rules}
 use Rattle.store.proofs.MarkLaws.{is_true, is_false}
-use Rattle.store.proofs.NextLaws.{Passed, passed_none, passed-more, next_here, next-nowhere}
+use Rattle.store.proofs.NextLaws.{Passed, passed_none, passed_more, next_here, next_nowhere}
 use Rattle.store.proofs.marks.next_mark.Statement.{statement}
 use Rattle.store.proofs.marks.next_mark.Tie as tie
 
@@ -29,10 +29,10 @@ loop-less : tie.Need-loop-smaller invariant-loop decreases-loop
 loop-less c = search rules
 
 loop-again : tie.Need-loop-preserved invariant-loop decreases-loop
-loop-again c = passed-more c.before.before.before.loop.invariant (is_false _ c.before.has.ensures c.if1.false)
+loop-again c = passed_more c.before.before.before.loop.invariant (is_false _ c.before.has.ensures c.if1.false)
 
 returns-2 : tie.Need-returns-2 invariant-loop decreases-loop
-returns-2 c = next-nowhere c.before.loop.invariant (omega arith)
+returns-2 c = next_nowhere c.before.loop.invariant (omega arith)
 
 pub next-mark-spec : {M : Type 1} → statement M
 next-mark-spec =

@@ -5,7 +5,7 @@ use native.Mathlib.Omega.{arith}
 use lib.ListN.{length, length-set}
 use borrow.Author.Rules.{rules}
 use Rattle.store.specs.Reading.{Unpacked}
-use Rattle.store.proofs.RowLaws.{listed-none, listed_next}
+use Rattle.store.proofs.RowLaws.{listed_none, listed_next}
 use Rattle.store.proofs.rows.step_rows.Statement.{statement}
 use Rattle.store.proofs.rows.step_rows.Tie as tie
 
@@ -16,7 +16,7 @@ abbrev decreases-loop : tie.decreases-loop
 decreases-loop steps n rows₀ i₀ rows i = n - i
 
 loop-holds : tie.Need-loop-init invariant-loop decreases-loop
-loop-holds c = (omega arith, search rules, listed-none 1024)
+loop-holds c = (omega arith, search rules, listed_none 1024)
 
 row-at-requires : tie.Need-row-at-requires invariant-loop decreases-loop
 row-at-requires c κs = search rules

@@ -3,7 +3,7 @@ use mathlib.Core.Path.{sym}
 use native.Mathlib.Omega.{arith}
 use lib.ListN.{length-take}
 use borrow.Author.Rules.{rules}
-use Rattle.text.proofs.LineLaws.{row-g-locals}
+use Rattle.text.proofs.LineLaws.{row_g_locals}
 use Rattle.text.proofs.lines.possible_line.Statement.{statement}
 use Rattle.text.proofs.lines.possible_line.Tie as tie
 
@@ -33,7 +33,7 @@ returns c =
     let four : tie.After-at-most-four = c.before.before.before.before in
     let six : tie.After-witness-numbers = four.before in
     let x = six.before.args in
-    let numbers = row-g-locals x.row x.g x.n x.locals (omega arith) in
+    let numbers = row_g_locals x.row x.g x.n x.locals (omega arith) in
     rw (sym numbers) (rw (six.witness-numbers.ensures, four.at-most-four.ensures) at c.put-line.ensures)
 
 pub possible-line-spec : {M : Type 1} → statement M

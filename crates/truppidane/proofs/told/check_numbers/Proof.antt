@@ -1,4 +1,4 @@
--- `truppidane::told::check_numbers` meets its contract: its parts are those of `checkNumbers`.
+-- `truppidane::told::check_numbers` meets its contract: its parts are those of `check_numbers`.
 use borrow.Author.Rules.{rules}
 use Rattle.truppidane.proofs.told.check_numbers.Statement.{statement}
 use Rattle.truppidane.proofs.told.check_numbers.Tie as tie

@@ -1,4 +1,4 @@
--- `truppidane::told::claim_numbers` meets its contract: its parts are those of `claimNumbers`.
+-- `truppidane::told::claim_numbers` meets its contract: its parts are those of `claim_numbers`.
 use borrow.Author.Rules.{rules}
 use Rattle.truppidane.proofs.told.claim_numbers.Statement.{statement}
 use Rattle.truppidane.proofs.told.claim_numbers.Tie as tie

@@ -1,4 +1,4 @@
--- `truppidane::told::of_verdict` meets its contract: each arm gives what `ofVerdict` gives for its case.
+-- `truppidane::told::of_verdict` meets its contract: each arm gives what `of_verdict` gives for its case.
 use borrow.Author.Rules.{rules}
 use Rattle.truppidane.proofs.told.of_verdict.Statement.{statement}
 use Rattle.truppidane.proofs.told.of_verdict.Tie as tie

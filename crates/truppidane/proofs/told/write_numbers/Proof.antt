@@ -1,4 +1,4 @@
--- `truppidane::told::write_numbers` meets its contract: its parts are those of `writeNumbers`.
+-- `truppidane::told::write_numbers` meets its contract: its parts are those of `write_numbers`.
 use borrow.Author.Rules.{rules}
 use Rattle.truppidane.proofs.told.write_numbers.Statement.{statement}
 use Rattle.truppidane.proofs.told.write_numbers.Tie as tie

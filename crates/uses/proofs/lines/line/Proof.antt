@@ -7,7 +7,7 @@ use borrow.Author.Tests.{not-true}
 use Rattle.store.proofs.MarkLaws.{is_false}
 use Rattle.uses.specs.Uses.{Upto, Line}
 use Rattle.uses.specs.Passing.{Swept}
-use Rattle.uses.proofs.PassLaws.{line-idle, swept-room, swept_of, upto-none, upto_next}
+use Rattle.uses.proofs.PassLaws.{line_idle, swept_room, swept_of, upto_none, upto_next}
 use Rattle.uses.proofs.lines.line.Statement.{statement}
 use Rattle.uses.proofs.lines.line.Tie as tie
 
@@ -27,10 +27,10 @@ same_length : tie.Need-same-length invariant-loop decreases-loop
 same_length c = search rules
 
 returns : tie.Need-returns invariant-loop decreases-loop
-returns c = line-idle _ _ _ (is_false _ c.before.lacks.ensures (not-true c.before.lacks.result c.if1.true))
+returns c = line_idle _ _ _ (is_false _ c.before.lacks.ensures (not-true c.before.lacks.result c.if1.true))
 
 loop-holds : tie.Need-loop-init invariant-loop decreases-loop
-loop-holds c = (omega arith, upto-none _)
+loop-holds c = (omega arith, upto_none _)
 
 add-one : tie.Need-overflow-add-one invariant-loop decreases-loop
 add-one c = search rules
@@ -42,7 +42,7 @@ one-requires : tie.Need-one-requires invariant-loop decreases-loop
 one-requires c κs =
     let at = c.before.before in
     let (x, y) = (start at).requires in
-    let e = swept-room at.loop.invariant.1 in
+    let e = swept_room at.loop.invariant.1 in
     (omega (arith, c.before.loop-test.true), omega (arith, c.before.loop-test.true))
 
 add-j : tie.Need-overflow-add-j invariant-loop decreases-loop
@@ -55,7 +55,7 @@ loop-again : tie.Need-loop-preserved invariant-loop decreases-loop
 loop-again c = let at = c.before.before in (omega arith, upto_next _ at.before.before.before.loop.invariant.1 at.one.ensures)
 
 same-length-2 : tie.Need-same-length-2 invariant-loop decreases-loop
-same-length-2 c = swept-room c.before.loop.invariant.1
+same-length-2 c = swept_room c.before.loop.invariant.1
 
 returns-2 : tie.Need-returns-2 invariant-loop decreases-loop
 returns-2 c =

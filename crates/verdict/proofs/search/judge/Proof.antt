@@ -3,19 +3,19 @@ use mathlib.Core.Path.{◌≡◌, refl}
 use Prim.Native.Nat.{◌-◌, ◌≤◌}
 use native.Mathlib.Omega.{arith}
 use borrow.Author.Rules.{rules}
-use Rattle.verdict.proofs.Lists.{getD-zeros}
-use Rattle.verdict.proofs.LentIsTable.{Ranges, errors-in-range}
-use Rattle.verdict.proofs.OneRow.{aimed-lt, unaimed-none}
+use Rattle.verdict.proofs.Lists.{get_or_zeros}
+use Rattle.verdict.proofs.LentIsTable.{Ranges, errors_in_range}
+use Rattle.verdict.proofs.OneRow.{aimed_lt, unaimed_none}
 use Rattle.verdict.proofs.Progress.{
   Passed,
   passed_start,
-  passed-shared,
-  passed-row,
-  passed-safe,
+  passed_shared,
+  passed_row,
+  passed_safe,
   Choosing,
-  choosing-next,
-  stuck-passed,
-  found-judged,
+  choosing_next,
+  stuck_passed,
+  found_judged,
 }
 use Rattle.verdict.proofs.search.judge.Statement.{statement}
 use Rattle.verdict.proofs.search.judge.Tie as tie
@@ -44,12 +44,12 @@ abbrev given : tie.At-threads invariant-threads decreases-threads invariant-shar
 given c = c.before.before.before.before.before.before.before.before.before
 
 -- and it is in range
-in-range : (c : tie.Start invariant-threads decreases-threads invariant-shared decreases-shared invariant-rows decreases-rows)
+in_range : (c : tie.Start invariant-threads decreases-threads invariant-shared decreases-shared invariant-rows decreases-rows)
     → Ranges c.args.s c.args.failed c.args.rows.now c.args.n c.args.mem.now
-in-range c = let (table, long, enough) = c.requires in errors-in-range c.args.mem.now table.1 long enough
+in_range c = let (table, long, enough) = c.requires in errors_in_range c.args.mem.now table.1 long enough
 
 add-last : tie.Need-overflow-add-last invariant-threads decreases-threads invariant-shared decreases-shared invariant-rows decreases-rows
-add-last c = omega (arith, (in-range c.before.before).3)
+add-last c = omega (arith, (in_range c.before.before).3)
 
 rows-holds : tie.Need-rows-init invariant-threads decreases-threads invariant-shared decreases-shared invariant-rows decreases-rows
 rows-holds c = (omega arith, passed_start)
@@ -59,7 +59,7 @@ shared-holds c = (omega arith, c.before.rows.invariant.1)
 
 aim-requires : tie.Need-aim-requires invariant-threads decreases-threads invariant-shared decreases-shared invariant-rows decreases-rows
 aim-requires c κs =
-    let h = in-range c.before.before.before.before.before.before in
+    let h = in_range c.before.before.before.before.before.before in
     (h.0, h.1, h.2, h.3, h.4, omega (arith, c.before.before.rows-test.true), c.shared-test.true)
 
 add-g : tie.Need-overflow-add-g invariant-threads decreases-threads invariant-shared decreases-shared invariant-rows decreases-rows
@@ -70,41 +70,41 @@ shared-less c = search rules
 
 shared-again : tie.Need-shared-preserved invariant-threads decreases-threads invariant-shared decreases-shared invariant-rows decreases-rows
 shared-again c =
-    (omega arith, passed-shared c.before.before.before.shared.invariant.1 (λ T of. unaimed-none of c.before.aim.ensures c.if1.true))
+    (omega arith, passed_shared c.before.before.before.shared.invariant.1 (λ T of. unaimed_none of c.before.aim.ensures c.if1.true))
 
 threads-holds : tie.Need-threads-init invariant-threads decreases-threads invariant-shared decreases-shared invariant-rows decreases-rows
 threads-holds c =
-    let h = in-range c.before.before.before.before.before.before.before.before in (
+    let h = in_range c.before.before.before.before.before.before.before.before in (
       refl,
       record {
         passed = c.before.before.before.shared.invariant.1;
         at = record {
-          row-le = omega (arith, c.before.before.before.before.rows-test.true);
-          g-lt = c.before.before.shared-test.true;
-          u-lt = aimed-lt h.0.n_pos c.before.aim.ensures c.if1.false;
+          row_le = omega (arith, c.before.before.before.before.rows-test.true);
+          g_lt = c.before.before.shared-test.true;
+          u_lt = aimed_lt h.0.n_pos c.before.aim.ensures c.if1.false;
           aimed = c.before.aim.ensures;
         };
-        t-le = omega arith;
+        t_le = omega arith;
         four = refl;
         chosen = λ i l. absurd (omega arith);
-        zeros = λ i l. getD-zeros 4 i;
+        zeros = λ i l. get_or_zeros 4 i;
       },
     )
 
 cell-of-requires : tie.Need-cell-of-requires invariant-threads decreases-threads invariant-shared decreases-shared invariant-rows decreases-rows
 cell-of-requires c κs =
-    let h = in-range (given c.before) in
-    (h.2, h.3, c.before.threads.invariant.1.at.row-le, omega (arith, c.threads-test.true, h.0.n-max))
+    let h = in_range (given c.before) in
+    (h.2, h.3, c.before.threads.invariant.1.at.row-le, omega (arith, c.threads-test.true, h.0.n_max))
 
 least-requires : tie.Need-least-requires invariant-threads decreases-threads invariant-shared decreases-shared invariant-rows decreases-rows
 least-requires c κs =
-    let h = in-range (given c.before.before) in
+    let h = in_range (given c.before.before) in
     (h.0, h.4, c.before.threads-test.true, omega (arith, c.before.before.threads.invariant.1.at.g-lt))
 
 add-g-2 : tie.Need-overflow-add-g-2 invariant-threads decreases-threads invariant-shared decreases-shared invariant-rows decreases-rows
 add-g-2 c =
     let at = c.before.before.before.before in
-    omega (arith, at.threads.invariant.1.at.g-lt, (in-range (given at)).0.g-max)
+    omega (arith, at.threads.invariant.1.at.g-lt, (in_range (given at)).0.g_max)
 
 shared-less-2 : tie.Need-shared-smaller-2 invariant-threads decreases-threads invariant-shared decreases-shared invariant-rows decreases-rows
 shared-less-2 c = omega (arith, c.before.before.before.before.threads.invariant.0, c.before.before.before.before.threads.invariant.1.at.g-lt)
@@ -113,19 +113,19 @@ shared-again-2 : tie.Need-shared-preserved-2 invariant-threads decreases-threads
 shared-again-2 c =
     let now = c.before.before.before.before.threads.invariant.1 in (
       omega (arith, now.at.g-lt),
-      stuck-passed now c.before.before.before.threads-test.true c.before.before.cell-of.ensures
+      stuck_passed now c.before.before.before.threads-test.true c.before.before.cell-of.ensures
           c.before.least.ensures c.if2.true,
     )
 
 mul-ls : tie.Need-overflow-mul-ls invariant-threads decreases-threads invariant-shared decreases-shared invariant-rows decreases-rows
 mul-ls c =
     let now = c.before.before.before.before in
-    omega (arith, c.before.before.before.threads-test.true, (in-range (given now)).0.n-max)
+    omega (arith, c.before.before.before.threads-test.true, (in_range (given now)).0.n_max)
 
 array-write-ls : tie.Need-array-write-ls invariant-threads decreases-threads invariant-shared decreases-shared invariant-rows decreases-rows
 array-write-ls c =
     let now = c.before.before.before.before in
-    omega (arith, c.before.before.before.threads-test.true, (in-range (given now)).0.n-max, now.threads.invariant.1.four)
+    omega (arith, c.before.before.before.threads-test.true, (in_range (given now)).0.n_max, now.threads.invariant.1.four)
 
 add-t : tie.Need-overflow-add-t invariant-threads decreases-threads invariant-shared decreases-shared invariant-rows decreases-rows
 add-t c = search rules
@@ -138,8 +138,8 @@ threads-again c =
     let now = c.before.before.before.before.threads.invariant in
     let l = c.before.before.before.threads-test.true in (
       now.0,
-      choosing-next now.1 l c.before.before.cell-of.ensures c.before.least.ensures
-          (omega (arith, (in-range (given c.before.before.before.before)).0.n-max)) c.if2.false,
+      choosing_next now.1 l c.before.before.cell-of.ensures c.before.least.ensures
+          (omega (arith, (in_range (given c.before.before.before.before)).0.n_max)) c.if2.false,
     )
 
 found-requires : tie.Need-found-requires invariant-threads decreases-threads invariant-shared decreases-shared invariant-rows decreases-rows
@@ -148,7 +148,7 @@ found-requires c κs = search rules
 returns : tie.Need-returns invariant-threads decreases-threads invariant-shared decreases-shared invariant-rows decreases-rows
 returns c =
     let now = c.before.before.threads.invariant.1 in
-    λ T of. rw c.found.ensures (found-judged now (omega (arith, now.t-le, c.before.threads-test.false)) of)
+    λ T of. rw c.found.ensures (found_judged now (omega (arith, now.t_le, c.before.threads-test.false)) of)
 
 add_row : tie.Need-overflow-add-row invariant-threads decreases-threads invariant-shared decreases-shared invariant-rows decreases-rows
 add_row c = search rules
@@ -157,10 +157,10 @@ rows-less : tie.Need-rows-smaller invariant-threads decreases-threads invariant-
 rows-less c = search rules
 
 rows-again : tie.Need-rows-preserved invariant-threads decreases-threads invariant-shared decreases-shared invariant-rows decreases-rows
-rows-again c = (omega arith, passed-row c.before.shared.invariant.1 (omega arith))
+rows-again c = (omega arith, passed_row c.before.shared.invariant.1 (omega arith))
 
 returns-2 : tie.Need-returns-2 invariant-threads decreases-threads invariant-shared decreases-shared invariant-rows decreases-rows
-returns-2 c = λ T of. passed-safe c.before.rows.invariant.1 (omega arith) T of
+returns-2 c = λ T of. passed_safe c.before.rows.invariant.1 (omega arith) T of
 
 pub judge-spec : {M : Type 1} → statement M
 judge-spec =

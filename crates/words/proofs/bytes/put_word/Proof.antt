@@ -5,7 +5,7 @@ use native.Mathlib.Omega.{arith}
 use borrow.Author.Rules.{rules}
 use lib.ListN.{length, take, length-set}
 use Rattle.numbers.specs.Putting.{Put}
-use Rattle.words.proofs.PutLaws.{word_more, word-all}
+use Rattle.words.proofs.PutLaws.{word_more, word_all}
 use Rattle.words.proofs.bytes.put_word.Statement.{statement}
 use Rattle.words.proofs.bytes.put_word.Tie as tie
 
@@ -45,7 +45,7 @@ same_length : tie.Need-same-length invariant-loop decreases-loop
 same_length c = search rules
 
 returns : tie.Need-returns invariant-loop decreases-loop
-returns c = word-all _ c.before.loop.invariant.2 (omega arith)
+returns c = word_all _ c.before.loop.invariant.2 (omega arith)
 
 pub put-word-spec : {M : Type 1} → statement M
 put-word-spec =

@@ -5,8 +5,8 @@ use native.Mathlib.Omega.{arith}
 use borrow.Fn.Kinds.{In}
 use borrow.Fn.PlainCycle.{Measures, is, falls, and}
 use borrow.Author.Rules.{rules}
-use Rattle.words.proofs.DecimalLaws.{length-one, length_more}
-use Rattle.words.proofs.PutLaws.{put-decimal-one, put-decimal-more}
+use Rattle.words.proofs.DecimalLaws.{length_one, length_more}
+use Rattle.words.proofs.PutLaws.{put_decimal_one, put_decimal_more}
 use Rattle.words.proofs.decimal.put_decimal.Reads as put-decimal
 use Rattle.words.proofs.decimal.put_decimal.Kinds as put-decimal-kinds
 use Rattle.words.proofs.decimal.+put_decimal.Lts-put_decimal as lts
@@ -37,13 +37,13 @@ module _ (t : ℕ) where
   add-last c = search rules
 
   put-byte-requires : lts.Need-put-byte-requires (callees t) (given t) put-decimal.Post
-  put-byte-requires c κs = omega (arith, length-one _ c.before.if1.true)
+  put-byte-requires c κs = omega (arith, length_one _ c.before.if1.true)
 
   same_length : lts.Need-same-length (callees t) (given t) put-decimal.Post
   same_length c = search rules
 
   returns : lts.Need-returns (callees t) (given t) put-decimal.Post
-  returns c = put-decimal-one c.before.before.before.before.if1.true c.before.before.put_byte.ensures
+  returns c = put_decimal_one c.before.before.before.before.if1.true c.before.before.put_byte.ensures
 
   put-decimal-requires : lts.Need-put-decimal-requires (callees t) (given t) put-decimal.Post
   put-decimal-requires c κs = let more = length_more _ c.before.if1.false in (omega arith, omega arith)
@@ -59,7 +59,7 @@ module _ (t : ℕ) where
   returns-2 : lts.Need-returns-2 (callees t) (given t) put-decimal.Post
   returns-2 c =
       let past = c.before.before.before.before.before.before in
-      put-decimal-more past.before.before.if1.false past.put-decimal.ensures c.before.before.put-byte2.ensures
+      put_decimal_more past.before.before.if1.false past.put-decimal.ensures c.before.before.put-byte2.ensures
 
 pub +put-decimal-spec : {M : Type 1} → statement M
 +put-decimal-spec =

@@ -4,7 +4,7 @@ use Prim.Native.Nat.{◌-◌, ◌≤◌}
 use native.Mathlib.Omega.{arith}
 use borrow.Author.Rules.{rules}
 use lib.ListN.{length}
-use Rattle.words.proofs.LineLaws.{PutFirst, numbers-none, numbers_more, line-whole}
+use Rattle.words.proofs.LineLaws.{PutFirst, numbers_none, numbers_more, line_whole}
 use Rattle.words.proofs.line.put_line.Statement.{statement}
 use Rattle.words.proofs.line.put_line.Tie as tie
 
@@ -18,7 +18,7 @@ put-word-requires : tie.Need-put-word-requires invariant-loop decreases-loop
 put-word-requires c κs = search rules
 
 loop-holds : tie.Need-loop-init invariant-loop decreases-loop
-loop-holds c = (omega arith, refl, numbers-none)
+loop-holds c = (omega arith, refl, numbers_none)
 
 mul-put-field : tie.Need-overflow-mul-put-field invariant-loop decreases-loop
 mul-put-field c = search rules
@@ -51,7 +51,7 @@ returns : tie.Need-returns invariant-loop decreases-loop
 returns c =
     let head = c.before.before.before.before.before in
     let word = head.before.before.before.put_word in
-    line-whole head.loop.invariant.2 word.ensures (omega arith) c.before.before.put_byte.ensures (omega arith)
+    line_whole head.loop.invariant.2 word.ensures (omega arith) c.before.before.put_byte.ensures (omega arith)
 
 pub put-line-spec : {M : Type 1} → statement M
 put-line-spec =
