@@ -1,3 +1,5 @@
 // The check: a table in, the least relations, their count and the verdict out.
+#![tactic(auto)]
+
 pub mod answer;
 pub mod check;

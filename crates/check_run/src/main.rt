@@ -2,6 +2,8 @@
 // Then on a table where a row leaves the failed store, and on one that returns from a call. Then counts the bytes that a check is to leave alone
 // and did not, and the facts of each kind in the training table, and runs it on tables at the limits of the sizes and just past them. Last comes a
 // table that takes all of the bench's memory and budget.
+#![tactic(auto)]
+
 use check_call::answer::Answer;
 use check_call::check::check;
 use libc::STDOUT_FILENO;

@@ -1,5 +1,7 @@
 // Runs claim writing and the claim check on document 01's reference tables: the document's claims, claims with a fault at each place, claims that
 // were written. Every byte lent and every byte around is 0xAA before a call, and the bytes that a call changes are counted.
+#![tactic(auto)]
+
 ghost use Rattle.std.specs.Prelude.{◌≤◌};
 
 use claim_check_call::check::check_claim;

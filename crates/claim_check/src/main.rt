@@ -1,5 +1,7 @@
 // The program `claim_check TABLE CLAIM`: checks the claim in a file against the table in another. Prints that it is accepted, with its count of
 // facts; or the refusal. Why it is refused, and what is wrong with a file, is said on standard error.
+#![tactic(auto)]
+
 ghost use Rattle.std.specs.Prelude.{◌≡◌, ◌+◌, length};
 ghost use Rattle.files.specs.Table.{most_facts};
 

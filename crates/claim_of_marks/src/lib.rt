@@ -1,2 +1,4 @@
 // The bytes of a claim file, written from a working memory (document 01, "Working memory and claims").
+#![tactic(auto)]
+
 pub mod writing;

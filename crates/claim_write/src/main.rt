@@ -1,6 +1,8 @@
 // The program `claim_write TABLE CLAIM`: checks the table in a file and writes the claim of its facts to another file. Prints the number of facts,
 // the verdict and the number of bytes written; or, where the table is refused, the refusal, and no file is written. Why a table is refused, and what
 // is wrong with a file, is said on standard error.
+#![tactic(auto)]
+
 ghost use Rattle.std.specs.Prelude.{◌≡◌, ◌+◌, length};
 ghost use Rattle.files.specs.Table.{most_facts};
 ghost use Rattle.claim_write_call.specs.AnyTable.{AnyWritten};

@@ -1,5 +1,7 @@
 // Runs the table reader on the files that standard input writes out, on the training table and on tables at the limits of document 01. Each
 // file gets a line that says what comes back.
+#![tactic(auto)]
+
 ghost use Rattle.std.specs.Prelude.{◌+◌, ◌≤◌, length};
 
 use cells::columns::Sizes;

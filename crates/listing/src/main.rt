@@ -1,5 +1,7 @@
 // The program `listing < TABLE` (document 01, "Reference tables and results"): checks the table on standard input and prints what comes back. Why a
 // table is refused, and what is wrong with the input or the output, is said on standard error.
+#![tactic(auto)]
+
 ghost use Rattle.std.specs.Prelude.{◌≡◌, ◌+◌, ◌≤◌, length};
 ghost use Rattle.check_call.specs.Checking.{Checked};
 

@@ -81,6 +81,7 @@ module _ (s : List ℕ) where
 
   -- a number of at most `left` groups is below 128 to that power
   accepted_below : (left : ℕ) {least at v n : ℕ} → Accepted s left least at v n → v < 128 ^ left
+  accepted_below zero {least = least} {at = at} {v = v} {n = n} x' = elim x' [ ]
   accepted_below (suc left) (ended h l z e m) = omega (arith, one-le-pow left 128 (omega arith))
   accepted_below (suc left) (more w h l e a) = omega (arith, accepted_below left a)
 

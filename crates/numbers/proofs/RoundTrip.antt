@@ -81,6 +81,7 @@ pub record Written (s : List ℕ) (left at v n : ℕ) : Type 0 where
 
 module _ (s : List ℕ) (bs : Bytes s) where
   accepted_written : (left : ℕ) {least at v n : ℕ} → Accepted s left least at v n → Written s left at v n
+  accepted_written zero {least = least} {at = at} {v = v} {n = n} x' = elim x' [ ]
   accepted_written (suc left) {at = at} {v} (ended h l z e m) =
       let d : groups_of (suc left) v ≡ v ∷ [] = groups_of_last left v (omega arith) in
       record { stand = rw d (h, sym e, tt); past = rw d m }

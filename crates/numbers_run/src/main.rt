@@ -1,4 +1,6 @@
 // Runs the reader and the writer of numbers on vectors of document 01, a line for each.
+#![tactic(auto)]
+
 use libc::STDOUT_FILENO;
 use numbers::reading::Read;
 

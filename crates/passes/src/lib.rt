@@ -2,6 +2,8 @@
 //   pushes_and_pops  rules 5 and 7
 //   calls            rule 6
 //   guarantees       rules 2 and 3
+#![tactic(auto)]
+
 pub mod calls;
 pub mod guarantees;
 pub mod pushes_and_pops;

@@ -1,6 +1,8 @@
 // A reader keeps a file and its place together as one thing, and moves on only past whole numbers (document 01, "Numbers").
 // The functions over it are thin: each takes the reader apart and calls one on the bytes and the place. Whoever has bytes and a place calls
 // `number_at` and `end_at`, which make a reader and read through it.
+#![tactic(auto)]
+
 ghost use Rattle.std.specs.Prelude.{◌≡◌};
 ghost use Rattle.numbers.specs.Reading.{number_at, read_of};
 ghost use Rattle.reader.specs.Places.{left_from};

@@ -1,5 +1,7 @@
 // Rule 4 on the P facts of a thread t from a pair a. One walker goes over a list of step rows. It is an inner layer: its
 // functions have `requires`.
+#![tactic(auto)]
+
 ghost use Rattle.std.specs.Prelude.{◌<◌, ◌≤◌, length};
 ghost use Rattle.store.specs.Marking.{room};
 ghost use Rattle.positions.specs.Plans.{Planned};

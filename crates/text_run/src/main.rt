@@ -1,4 +1,6 @@
 // Prints lines of every kind of the listing and of the programs on claims, at the borders of their numbers and positions, and what each refusal says.
+#![tactic(auto)]
+
 ghost use Rattle.positions.specs.Plans.{Planned};
 
 use fact_text::line::fact_line;

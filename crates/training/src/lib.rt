@@ -1,5 +1,7 @@
 // The training table of document 01, built in: the program Simple of document 004 with three threads; and its table of two threads with a
 // true/false mutex.
+#![tactic(auto)]
+
 ghost use Rattle.std.specs.Prelude.{◌≡◌};
 ghost use Rattle.files.specs.Layout.{numbers_of};
 ghost use Rattle.training.specs.Training.{training, mutex};

@@ -2,5 +2,7 @@
 // the exported functions.
 //   told   an answer as eleven numbers
 //   calls  the exported functions
+#![tactic(auto)]
+
 pub mod calls;
 mod told;

@@ -1,5 +1,7 @@
 // Text as bytes: words, numbers in decimal, and lines of them (document 01, "Reference tables and results"), written into a buffer that the caller
 // lends.
+#![tactic(auto)]
+
 mod bytes;
 mod decimal;
 pub mod line;
