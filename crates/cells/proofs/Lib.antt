@@ -7,8 +7,6 @@
 --   RowLooks      how far reading a row looks
 --   RowStops      a row is refused where its first fault is
 --   StageLaws     what the answer of reading a row tells
---   Values        columns, numbers, rows and rows so far as values in a walk
---   RowCalls      a call of `row_through` in a walk
 --   Unique        two results that a contract allows are equal
 pub mod RowMemory
 pub mod RowLaws
@@ -18,6 +16,4 @@ pub mod RowFits
 pub mod RowLooks
 pub mod RowStops
 pub mod StageLaws
-pub mod Values
-pub mod RowCalls
 pub mod Unique

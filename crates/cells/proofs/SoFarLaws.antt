@@ -24,7 +24,7 @@ use Rattle.cells.specs.Rows.{cell_at, row_at}
 use Rattle.cells.specs.Answers.{row_read_of}
 use Rattle.cells.specs.Passing.{past_cell, past_row}
 use Rattle.cells.specs.Stages.{cell_of, absent, due_from, column_at, begun_at, with_cell}
-use Rattle.cells.proofs.RowLaws.{to, cell_read, cell_past, Filling, next_column, fill_start, fill_more, fill_bad, fill_end}
+use Rattle.cells.proofs.RowLaws.{cell_read, cell_past, Filling, next_column, fill_start, fill_more, fill_bad, fill_end}
 use Rattle.cells.proofs.DueLaws.{due_up, due_there, fill_due}
 
 -- a row so far, by its parts

@@ -3,7 +3,7 @@ ghost use Rattle.std.specs.Prelude.{◌≡◌};
 ghost use Rattle.cells.specs.Columns.{of_thread, step_columns, push_columns, pop_columns, error_columns};
 
 // A column of a row. One that is not there takes no bytes.
-#[derive(Drop)]
+#[derive(Clone, Copy)]
 pub enum Column {
     Within { low: u8, most: u8 },
     Below { end: u8 },
@@ -11,7 +11,7 @@ pub enum Column {
 }
 
 // How many threads, shared stores, local stores and frames there are.
-#[derive(Drop)]
+#[derive(Clone, Copy)]
 pub struct Sizes {
     pub threads: u8,
     pub shared: u8,

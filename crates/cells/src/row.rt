@@ -15,14 +15,14 @@ use reader::ends::End;
 use reader::fields::ranged;
 
 // The five cells of a row, all 0 where it is refused.
-#[derive(Drop)]
+#[derive(Clone, Copy)]
 pub struct RowRead {
     pub cells: [u8; 5],
     pub end: End,
 }
 
 // A row that is being read: what stands of it, and the next column that is there; 5 where none is, and where the row is refused.
-#[derive(Drop)]
+#[derive(Clone, Copy)]
 pub(crate) struct SoFar {
     row: RowRead,
     due: usize,

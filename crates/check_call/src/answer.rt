@@ -6,7 +6,7 @@ use numbers::refusals::Refusal;
 use verdict::search::Verdict;
 
 // What a check comes back with.
-#[derive(Drop)]
+#[derive(Clone, Copy)]
 pub enum Answer {
     // It is done: how many facts there are, and the verdict.
     Done { count: usize, verdict: Verdict },
@@ -19,7 +19,7 @@ pub enum Answer {
 }
 
 // Document 01's number, origin and value of an answer.
-#[derive(Drop)]
+#[derive(Clone, Copy)]
 pub struct Reply {
     pub number: u32,
     pub origin: u32,

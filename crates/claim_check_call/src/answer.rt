@@ -6,7 +6,7 @@ use check_call::answer::{Reply, plain_reply, refusal_reply};
 use numbers::refusals::Refusal;
 
 // What a claim check comes back with.
-#[derive(Drop)]
+#[derive(Clone, Copy)]
 pub enum ClaimAnswer {
     // The claim is accepted: how many facts it claims.
     Accepted { count: usize },

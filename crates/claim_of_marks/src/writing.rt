@@ -17,7 +17,7 @@ use store::marks::next_mark;
 const VERSION: usize = 1;
 
 // How many positions a claim has, and how many bytes they take.
-#[derive(Drop)]
+#[derive(Clone, Copy)]
 struct Totals {
     count: usize,
     width: usize,

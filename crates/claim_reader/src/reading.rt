@@ -19,7 +19,7 @@ use reader::fields::{field, version};
 const LEAST: u32 = 1;
 
 // A claim that was read: how many positions it has; or the refusal.
-#[derive(Drop)]
+#[derive(Clone, Copy)]
 pub enum Claimed {
     Read { count: usize },
     Refused { refusal: Refusal },

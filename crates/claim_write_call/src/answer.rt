@@ -7,7 +7,7 @@ use numbers::refusals::Refusal;
 use verdict::search::Verdict;
 
 // What claim writing comes back with.
-#[derive(Drop)]
+#[derive(Clone, Copy)]
 pub enum WriteAnswer {
     // The claim is written: how many facts there are, the verdict, and how many bytes the claim takes.
     Written {

@@ -16,7 +16,7 @@ use store::rows::{RowCounts, cell};
 use uses::lines::Pass;
 
 // The number of facts, or that there are more than the budget.
-#[derive(Drop)]
+#[derive(Clone, Copy)]
 pub enum Answer {
     Done(usize),
     Over,

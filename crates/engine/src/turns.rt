@@ -22,7 +22,7 @@ use uses::lines::Pass;
 
 // The number of the stretch of P facts whose turn it is, and what the work carries; `before` is how many marks could still be put when the round
 // began. A stretch past the last ends the work.
-#[derive(Drop)]
+#[derive(Clone, Copy)]
 pub struct Turn {
     pub stretch: usize,
     pub before: usize,

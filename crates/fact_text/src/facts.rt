@@ -7,7 +7,7 @@ ghost use Rattle.fact_text.specs.Facts.{bare_table, plan_fact, fields_of};
 use positions::plan::Plan;
 
 // A fact: its kind, and its fields in the document's order.
-#[derive(Drop)]
+#[derive(Clone, Copy)]
 pub enum FactFields {
     G {
         t: usize,

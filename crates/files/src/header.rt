@@ -24,7 +24,7 @@ pub const MOST_FACTS: usize = 2360320;
 
 // What the header says. `failed` is 0 for no failed store and k + 1 for local store k; `start` is the initial shared store;
 // `firsts` has each thread's initial local store, and 0 for the threads that are not there.
-#[derive(Drop)]
+#[derive(Clone, Copy)]
 pub struct Header {
     pub sizes: Sizes,
     pub failed: u8,
@@ -33,7 +33,7 @@ pub struct Header {
 }
 
 // A header with the place past it, or the refusal beside a header of zeros.
-#[derive(Drop)]
+#[derive(Clone, Copy)]
 pub struct HeaderRead {
     pub header: Header,
     pub end: End,

@@ -33,7 +33,7 @@ pub const POP_BYTES: usize = 5 * MOST_POPS as usize;
 pub const ERROR_BYTES: usize = 5 * MOST_ERRORS as usize;
 
 // How many rows each list has.
-#[derive(Drop)]
+#[derive(Clone, Copy)]
 pub struct Counts {
     pub steps: usize,
     pub pushes: usize,
@@ -41,14 +41,14 @@ pub struct Counts {
     pub errors: usize,
 }
 
-#[derive(Drop)]
+#[derive(Clone, Copy)]
 pub enum Outcome {
     Accepted,
     Refused { refusal: Refusal },
 }
 
 // What reading a table file gives; beside a refusal, zeros.
-#[derive(Drop)]
+#[derive(Clone, Copy)]
 pub struct TableRead {
     pub header: Header,
     pub counts: Counts,
@@ -73,7 +73,7 @@ fn no_table(refusal: Refusal) -> TableRead
 
 // The parts of a table file: the header, how many rows each list has, where what stands before each list ends, and where the file ends. An end is
 // a place or the first refusal.
-#[derive(Drop)]
+#[derive(Clone, Copy)]
 struct Parts {
     header: Header,
     counts: Counts,

@@ -17,7 +17,7 @@ use store::rows::RowCounts;
 use verdict::search::{Verdict, judge};
 
 // The first of 9, 10 and 11 that there is, each with its value; or that there is none.
-#[derive(Drop)]
+#[derive(Clone, Copy)]
 pub enum Finding {
     // The facts are a closed set with the start facts, and allow no error.
     Accepted,

@@ -16,7 +16,7 @@ use numbers::refusals::Refusal;
 use reader::ends::End;
 
 // How many rows a list has, 0 where it is refused.
-#[derive(Drop)]
+#[derive(Clone, Copy)]
 pub struct ListRead {
     pub count: usize,
     pub end: End,

@@ -5,7 +5,7 @@ ghost use Rattle.numbers.specs.Reading.{groups_at, number_at, read_of};
 use crate::refusals::Refusal;
 
 // The groups of seven bits that stand at a place: their number with the place past them, or why there is none.
-#[derive(Drop)]
+#[derive(Clone, Copy)]
 enum Grouped {
     Value { value: u32, next: usize },
     Cut,
@@ -13,7 +13,7 @@ enum Grouped {
 }
 
 // A number with the place past it, or the refusal.
-#[derive(Drop)]
+#[derive(Clone, Copy)]
 pub enum Read {
     Value { value: u32, next: usize },
     Refused { refusal: Refusal },

@@ -3,7 +3,7 @@ ghost use Rattle.std.specs.Prelude.{◌≡◌};
 ghost use Rattle.numbers.specs.Refusals.{told_of};
 
 // Why a file is refused. Places are counted in bytes, from 0.
-#[derive(Drop)]
+#[derive(Clone, Copy)]
 pub enum Refusal {
     // The bytes end inside a number or before one that is due; the value is how many there are.
     Cut { length: usize },
@@ -20,7 +20,7 @@ pub enum Refusal {
 }
 
 // Document 01's number of an answer, and its value.
-#[derive(Drop)]
+#[derive(Clone, Copy)]
 pub struct Told {
     pub number: u32,
     pub value: usize,

@@ -8,7 +8,7 @@ use cells::columns::Sizes;
 
 // n threads, g shared stores, l local stores, f frames; k pairs of a shared and a local store; p and q, where the P and the Q facts begin;
 // w facts in all.
-#[derive(Drop)]
+#[derive(Clone, Copy)]
 pub struct Plan {
     pub n: usize,
     pub g: usize,

@@ -27,7 +27,7 @@ use Rattle.reader.proofs.number_at.Reads as number_at
 use Rattle.reader.proofs.number_at.Kinds as number-at-kinds
 use Rattle.reader.proofs.end_at.Reads as end-at
 use Rattle.reader.proofs.end_at.Kinds as end-at-kinds
-use Rattle.reader.proofs.ends.end_after.Reads as end_after_lem
+use Rattle.reader.proofs.ends.end_after.Reads as end_after
 use Rattle.reader.proofs.ends.end_after.Kinds as end-after-kinds
 use Rattle.reader.proofs.fields.ranged.Reads as ranged
 use Rattle.reader.proofs.fields.ranged.Kinds as ranged-kinds
@@ -44,7 +44,7 @@ number_at_fixes κs a x x' s s' = same
 pub end_at_fixes : Fixes end-at-kinds.ps end-at-kinds.r end-at.Post
 end_at_fixes κs a x x' s s' = same
 
-pub end_after_fixes : Fixes end-after-kinds.ps end-after-kinds.r end_after_lem.Post
+pub end_after_fixes : Fixes end-after-kinds.ps end-after-kinds.r end_after.Post
 end_after_fixes κs a x x' s s' = same
 
 pub ranged_fixes : Fixes ranged-kinds.ps ranged-kinds.r ranged.Post

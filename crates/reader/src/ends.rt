@@ -6,7 +6,7 @@ ghost use Rattle.reader.specs.Ended.{ended_of};
 use numbers::refusals::Refusal;
 
 // The place past a part that was read, or why it was refused.
-#[derive(Drop)]
+#[derive(Clone, Copy)]
 pub enum End {
     Past { next: usize },
     Refused { refusal: Refusal },

@@ -17,7 +17,7 @@ pub mod fields;
 pub mod places;
 
 // A file's bytes and the place of the next number.
-#[derive(Drop)]
+#[derive(Clone, Copy)]
 pub struct Reader<'a> {
     pub src: &'a [u8],
     pub at: usize,

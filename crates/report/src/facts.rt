@@ -12,7 +12,7 @@ use store::marks::next_mark;
 use text::lines::ROOM;
 
 // The line of a fact with its length, and the position past the fact; or the end of the list.
-#[derive(Drop)]
+#[derive(Clone, Copy)]
 pub enum Next {
     Line { length: usize, next: usize },
     End,

@@ -6,7 +6,7 @@ ghost use Rattle.store.specs.Reading.{row_of, Unpacked};
 use files::table::STEP_ROWS;
 
 // A row of five numbers: its thread, its place g, l, and two more. These are g', l' of a step row; l', f of a push row; f, l' of a pop row.
-#[derive(Drop)]
+#[derive(Clone, Copy)]
 pub struct Row {
     pub t: u8,
     pub g: u8,
@@ -16,7 +16,7 @@ pub struct Row {
 }
 
 // How many rows of each kind there are.
-#[derive(Drop)]
+#[derive(Clone, Copy)]
 pub struct RowCounts {
     pub steps: usize,
     pub pushes: usize,

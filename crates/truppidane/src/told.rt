@@ -21,7 +21,7 @@ use verdict::search::Verdict;
 pub const NUMBERS: usize = 11;
 
 // A verdict as numbers: 0 where there is none, 1 for safe, 2 for possible, and its witness, which is all 0 but for possible.
-#[derive(Drop)]
+#[derive(Clone, Copy)]
 pub struct VerdictNumbers {
     pub verdict: usize,
     pub row: usize,

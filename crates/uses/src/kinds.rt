@@ -1,5 +1,5 @@
 // The kinds of rows that rules 5 and 7 go over.
-#[derive(Drop)]
+#[derive(Clone, Copy)]
 pub enum Kind {
     Push,
     Pop,

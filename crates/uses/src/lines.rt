@@ -8,7 +8,7 @@ use store::marks::{has, lacks, put_mark};
 
 // What a pass carries. A pass that looks: the smallest position found lacking. A pass that puts: how many marks may still be put until there
 // are more than the budget. Where none is left, nothing is done any more.
-#[derive(Drop)]
+#[derive(Clone, Copy)]
 pub struct Pass {
     pub best: usize,
     pub left: usize,

@@ -11,7 +11,7 @@ use reaching::reach::least;
 
 // The verdict. The witness of a possible error is its row, its shared store g, and the local stores of threads 0 to 3, with 0 for a thread
 // that is not there.
-#[derive(Drop)]
+#[derive(Clone, Copy)]
 pub enum Verdict {
     Safe,
     Possible {

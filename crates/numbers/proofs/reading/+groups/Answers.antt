@@ -1,5 +1,4 @@
 -- `numbers::reading::groups` meets its contract: each way out is a law of `groups_at`. The measure is `left`.
-use Prim.Native.Nat.{ℕ, ◌<◌}
 use mathlib.Core.Path.{sym, ◌∙◌}
 use native.Mathlib.Omega.{arith}
 use Rattle.numbers.proofs.NumberLaws.{groups_none, one_less, groups_cut, groups_short, groups_last, groups_more, groups_room}

@@ -1,6 +1,4 @@
 -- `numbers::reading::groups` meets its contract: each way out is a law of `groups_at`. The measure is `left`.
-use Rattle.std.proofs.Common.{◌≡◌, ◌≤◌, ℕ, ◌+◌, ◌-◌, ◌*◌, ◌<◌, length}
-use Rattle.numbers.specs.Reading.{groups_at, number_at, read_of}
 use Rattle.numbers.proofs.reading.+groups.Given as goal
 
 -- proposed from what the function passes where it calls itself

@@ -1,6 +1,5 @@
 -- `numbers::reading::number` meets its contract: a byte below 128 is the number; otherwise it is `groups` at four bytes, each arm what `out_of` gives
 -- for its case.
-use native.Mathlib.Omega.{arith}
 use mathlib.Core.Path.{sym, ap, ◌∙◌}
 use Rattle.numbers.specs.Reading.{read_of}
 use Rattle.numbers.proofs.NumberLaws.{number_groups, number_small}

@@ -1,7 +1,6 @@
 -- `numbers::writing::put` meets its contract. The loop's invariant: what is still to be written gives the whole number. The measure is `rest`.
 use native.Mathlib.Omega.{arith}
-use lib.ListN.{length-set}
-use Rattle.numbers.proofs.WritingLaws.{Writing, write_start, write_more, write_last, write_room}
+use Rattle.numbers.proofs.WritingLaws.{write_start, write_more, write_last, write_room}
 use Rattle.numbers.proofs.writing.put.Goals as goal
 
 pub loop-rest-init : goal.loop-rest-init
