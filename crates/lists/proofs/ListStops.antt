@@ -2,7 +2,7 @@
 --     rows_refused        what refuses a row refuses the rows, those before it being read
 --     list_row_refused    and the list
 use mathlib.Core.Path.{◌≡◌, ap, ◌∙◌}
-use mathlib.Core.List.{List, [], ◌∷◌}
+use mathlib.Core.List.{List, []}
 use Prim.Native.Nat.{ℕ, zero, suc, ◌+◌, ◌<◌}
 use native.Mathlib.Omega.{arith}
 use Rattle.numbers.specs.declared.refusals.Refusal.{Refusal}
@@ -12,7 +12,7 @@ use Rattle.cells.specs.declared.columns.Column.{Column}
 use Rattle.cells.specs.Rows.{push, row_at}
 use Rattle.cells.proofs.RowFits.{pushed}
 use Rattle.lists.specs.Lists.{next_row, rows_at, list_at}
-use Rattle.lists.proofs.ListLaws.{next_bad, rows_none, rows_step, rows_stop, list_counted}
+use Rattle.lists.proofs.ListLaws.{next_bad, rows_step, rows_stop, list_counted}
 
 module _ (cs : List Column) (s : List ℕ) {x : Refusal} where
   -- i rows were read, and the next one is refused
