@@ -1,7 +1,7 @@
 -- The rows of a list that was read, as records and as cells: a record of a row gives the row's cells back, whatever kind of row it is.
 --     step_back, …, error_back          the cells of a row's record are the row
 --     cells_back, rows_sound            so are the cells of a list's records, and the records are sound rows
-use mathlib.Core.Path.{◌≡◌, refl, sym, ap, ap₂, subst, subst⁻¹}
+use mathlib.Core.Path.{◌≡◌, refl, sym, ap, ap₂, subst⁻¹}
 use mathlib.Core.List.{List, [], ◌∷◌, map, Memᴰ}
 use Prim.Native.Nat.{ℕ, zero, suc, ◌≤◌}
 use native.Mathlib.Omega.{arith}
@@ -69,6 +69,7 @@ module _ {A : Type 0} (of : List ℕ → A) (cells : A → List ℕ) (cs : List 
 
   module _ (Fits : A → Type 0) (fits : (r : List ℕ) → RowFits cs r → Fits (of r)) where
     each_fits : {old : List ℕ} {rs : List (List ℕ)} → Good cs old rs → (a : A) → Memᴰ a (map of rs) → Fits a
+    each_fits (last {old = old}) a x4 = elim x4 [ ]
     each_fits (more {r} f b g) a (Memᴰ.head e) = subst⁻¹ Fits e (fits r f)
     each_fits (more f b g) a (Memᴰ.tail m) = each_fits g a m
 

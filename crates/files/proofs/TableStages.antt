@@ -5,7 +5,7 @@
 --     accepted             and once they are kept, the answer and the memories are as the contract says
 --     refused              and so they are where it ends in a refusal and nothing is stored
 use mathlib.Core.Path.{◌≡◌, refl, sym, ap, ◌∙◌}
-use mathlib.Core.List.{List, map}
+use mathlib.Core.List.{List}
 use Prim.Native.Nat.{ℕ}
 use lib.ListN.{length}
 use Rattle.numbers.specs.declared.refusals.Refusal.{Refusal}
