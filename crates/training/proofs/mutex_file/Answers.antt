@@ -2,12 +2,8 @@
 use mathlib.Core.Path.{refl}
 use Rattle.training.specs.Training.{mutex}
 use Rattle.training.proofs.TrainingRule.{by_rule, by_rule_same}
-use Rattle.training.proofs.mutex_file.Statement.{statement}
-use Rattle.training.proofs.mutex_file.Tie as tie
+use Rattle.training.proofs.mutex_file.Goals as goal
 
-returns : tie.Need-returns
+pub returns : goal.returns
 unfolding by_rule mutex
 returns c = by_rule_same mutex _ refl
-
-pub mutex-file-spec : {M : Type 1} → statement M
-mutex-file-spec = tie.close (tie.spec returns)

@@ -2,12 +2,8 @@
 use mathlib.Core.Path.{refl}
 use Rattle.training.specs.Training.{training}
 use Rattle.training.proofs.TrainingRule.{by_rule, by_rule_same}
-use Rattle.training.proofs.file.Statement.{statement}
-use Rattle.training.proofs.file.Tie as tie
+use Rattle.training.proofs.file.Goals as goal
 
-returns : tie.Need-returns
+pub returns : goal.returns
 unfolding by_rule training
 returns c = by_rule_same training _ refl
-
-pub file-spec : {M : Type 1} → statement M
-file-spec = tie.close (tie.spec returns)
