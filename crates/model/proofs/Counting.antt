@@ -19,6 +19,7 @@ module _ (hi : ℕ) where
   between_le (p ∷ ps) (h, b) = omega (arith, between_le ps b)
 
   member_le : {lo q : ℕ} (ps : List ℕ) → Between lo hi ps → Memᴰ q ps → lo ≤ q
+  member_le {lo = lo} {q = q} [] _ x3 = elim x3 [ ]
   member_le (p ∷ ps) (h, b) (Memᴰ.head e) = omega arith
   member_le (p ∷ ps) (h, b) (Memᴰ.tail m) = omega (arith, member_le ps b m)
 

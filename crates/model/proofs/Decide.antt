@@ -73,6 +73,7 @@ up_to (suc n) = n ∷ up_to n
 
 up_to_lt : (n : ℕ) {t : ℕ} → Memᴰ t (up_to n) → t < n
 unfolding up_to
+up_to_lt zero {t = t} x' = elim x' [ ]
 up_to_lt (suc n) (Memᴰ.head e) = omega arith
 up_to_lt (suc n) (Memᴰ.tail m) = omega (arith, up_to_lt n m)
 

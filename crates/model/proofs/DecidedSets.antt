@@ -40,7 +40,7 @@ decided_marks {A} d (suc w) = put (bit (d 0)) (decided_marks (λ p. d (suc p)) w
     put : (x : ℕ) × Says (A 0) x → (mem : List ℕ) × (length mem ≡ w) × ((p : ℕ) → p < w → Says (A (suc p)) (mark mem p))
         → (mem : List ℕ) × (length mem ≡ suc w) × ((p : ℕ) → p < suc w → Says (A p) (mark mem p))
     put (x, first) (mem, long, says) =
-        (x ∷ mem, ap suc long, λ p. elim p [ zero ↦ λ l. first | suc p ↦ λ l. says p (omega arith) ])
+        (x ∷ mem, ap suc long, λ p. elim p as (λ k. k < suc w → Says (A k) (mark (x ∷ mem) k)) [ zero ↦ λ l. first | suc p ↦ λ l. says p (omega arith) ])
 
 -- ---- of facts
 

@@ -55,7 +55,7 @@ module _ {A B : Type 0} where
       from_append (λ b. (a : A) × Memᴰ a (x ∷ xs) × Memᴰ b (f a)) (f x) (flat_map f xs)
       (λ b i. (x, mem_first, i)) (λ b i. let (a, j, k) = from_flat_map f xs i in (a, Memᴰ.tail j, k)) m
 
-  pub to_flat_map : (f : A → List B) {xs : List A} {a : A} {b : B} → Memᴰ a xs → Memᴰ b (f a) → Memᴰ b (flat_map f xs)
+  pub to_flat_map : (f : A → List B) {a : A} {xs : List A} {b : B} → Memᴰ a xs → Memᴰ b (f a) → Memᴰ b (flat_map f xs)
   unfolding flat_map
   to_flat_map f {b} (Memᴰ.head e) m = Memᴰ.append_left _ (subst (λ (x : A). Memᴰ b (f x)) e m)
   to_flat_map f (Memᴰ.tail {x} i) m = Memᴰ.append_right (f x) (to_flat_map f i m)
