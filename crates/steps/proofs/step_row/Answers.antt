@@ -1,6 +1,5 @@
 -- The rule, if the row is the thread's.
 use Rattle.uses.proofs.PassLaws.{swept_under, swept_never}
-use Rattle.std.proofs.Common.{rules}
 use Rattle.steps.proofs.step_row.Goals as goal
 
 pub returns-then-r-t : goal.returns-then-r-t
