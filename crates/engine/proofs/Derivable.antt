@@ -63,7 +63,7 @@ module _ {T : Table} (sound : Sound T) {n : RowCounts} {st pu po : List ℕ} (re
   All = AllUses (plan_of T) n st pu po
 
   -- what rules put is derivable
-  pub derivable_grew : {c k : ℕ} {m m' : List ℕ} → Derivable T c m → Grew All m k m' → Derivable T (c + k) m'
+  pub derivable_grew : {c : ℕ} {m : List ℕ} {k : ℕ} {m' : List ℕ} → Derivable T c m → Grew All m k m' → Derivable T (c + k) m'
   derivable_grew h none = rw add-zero h
   derivable_grew h (more {m'} y g l u) =
       let h' = derivable_grew h g in

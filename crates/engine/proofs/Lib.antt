@@ -4,6 +4,7 @@
 --   EmptyStretches    a stretch of facts with no mark gives nothing
 --   Covering          how work under way goes on
 --   TurnLaws          what follows on a turn
+--   WorkLaws          what a turn finds, asks and hands on
 --   Derivable         a memory that marks derivable facts alone, and how many
 --   StartLaws         the memory with the start facts
 --   RunLaws           the ends of a run
@@ -13,6 +14,7 @@ pub mod NextStretch
 pub mod EmptyStretches
 pub mod Covering
 pub mod TurnLaws
+pub mod WorkLaws
 pub mod Derivable
 pub mod StartLaws
 pub mod RunLaws

@@ -1,0 +1,16 @@
+-- The first f frames are done.
+use mathlib.Core.Path.{◌≡◌}
+use Prim.Native.Nat.{◌≤◌, ◌-◌}
+use native.Mathlib.Omega.{arith}
+use Rattle.uses.specs.Uses.{Upto}
+use Rattle.uses.specs.Passing.{Swept}
+use Rattle.uses.specs.AllUses.{FrameUses}
+use Rattle.uses.proofs.PassLaws.{swept_room, swept_of, upto_none, upto_next}
+use Rattle.std.proofs.Common.{rules}
+use Rattle.engine.proofs.q_facts.frames.Given as goal
+
+abbrev pub invariant-loop-f : goal.invariant-loop-f
+invariant-loop-f l = (l.f ≤ l.n) × Swept (Upto (FrameUses l.s l.t l.a) l.f) l.put l.initial.sofar l.sofar l.initial.mem l.mem
+
+abbrev pub decreases-loop-f : goal.decreases-loop-f
+decreases-loop-f l = l.n - l.f

@@ -1,0 +1,18 @@
+-- Without frames nothing is done. Else the stretches that are counted before i are done.
+use mathlib.Core.Path.{◌≡◌}
+use Prim.Native.Nat.{◌*◌, ◌≤◌, ◌-◌}
+use native.Mathlib.Omega.{arith}
+use Rattle.uses.specs.Uses.{Upto}
+use Rattle.uses.specs.Passing.{Swept}
+use Rattle.uses.specs.AllUses.{QStretches}
+use Rattle.uses.proofs.PassLaws.{swept_room, swept_of, upto_none, upto_next, upto_spent}
+use Rattle.engine.proofs.EmptyStretches.{no_frames}
+use Rattle.uses.proofs.StretchNumbers.{stretches_small}
+use Rattle.std.proofs.Common.{rules}
+use Rattle.engine.proofs.q_facts.q_facts.Given as goal
+
+abbrev pub invariant-loop-i : goal.invariant-loop-i
+invariant-loop-i l = (l.i ≤ l.last) × Swept (Upto (QStretches l.s l.counts l.pops) l.i) l.put l.initial.sofar l.sofar l.initial.mem l.mem
+
+abbrev pub decreases-loop-i : goal.decreases-loop-i
+decreases-loop-i l = l.last - l.i
