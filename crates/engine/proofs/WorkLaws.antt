@@ -20,7 +20,7 @@ use Rattle.uses.specs.Passing.{Swept}
 use Rattle.uses.specs.RuleUses.{StepUses}
 use Rattle.uses.specs.AllUses.{AllUses}
 use Rattle.uses.proofs.PassLaws.{swept_room, swept_of}
-use Rattle.steps.proofs.ListLaws.{taken_length, taken_in, taken_swept}
+use Rattle.steps.proofs.ListLaws.{taken_in, taken_swept}
 use Rattle.engine.specs.declared.turns.Turn.{Turn}
 use Rattle.engine.specs.InRange.{Given}
 use Rattle.engine.specs.Working.{Worked}

@@ -2,7 +2,6 @@
 use mathlib.Core.Path.{◌≡◌, ap, subst}
 use Prim.Native.Nat.{◌+◌, ◌*◌, ◌≤◌}
 use native.Mathlib.Omega.{arith}
-use borrow.Author.Tests.{not-true}
 use Rattle.store.specs.Marking.{SomeIn}
 use Rattle.positions.specs.Plans.{q_from}
 use Rattle.store.proofs.MarkLaws.{is_false}
@@ -11,7 +10,6 @@ use Rattle.uses.specs.Uses.{Upto, Either}
 use Rattle.uses.specs.RuleUses.{CallUse, MovedFrom}
 use Rattle.uses.proofs.PassLaws.{swept_room, swept_of, and_then}
 use Rattle.engine.proofs.EmptyStretches.{frame_empty}
-use Rattle.std.proofs.Common.{rules}
 use Rattle.engine.proofs.q_facts.frame.Goals as goal
 
 pub overflow_add-y : goal.overflow_add-y

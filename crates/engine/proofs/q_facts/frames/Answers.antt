@@ -1,12 +1,6 @@
 -- The first f frames are done.
-use mathlib.Core.Path.{◌≡◌}
-use Prim.Native.Nat.{◌≤◌, ◌-◌}
 use native.Mathlib.Omega.{arith}
-use Rattle.uses.specs.Uses.{Upto}
-use Rattle.uses.specs.Passing.{Swept}
-use Rattle.uses.specs.AllUses.{FrameUses}
-use Rattle.uses.proofs.PassLaws.{swept_room, swept_of, upto_none, upto_next}
-use Rattle.std.proofs.Common.{rules}
+use Rattle.uses.proofs.PassLaws.{upto_none, upto_next}
 use Rattle.engine.proofs.q_facts.frames.Goals as goal
 
 pub loop-f-init : goal.loop-f-init

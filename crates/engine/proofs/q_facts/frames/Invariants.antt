@@ -1,12 +1,8 @@
 -- The first f frames are done.
-use mathlib.Core.Path.{◌≡◌}
 use Prim.Native.Nat.{◌≤◌, ◌-◌}
-use native.Mathlib.Omega.{arith}
 use Rattle.uses.specs.Uses.{Upto}
 use Rattle.uses.specs.Passing.{Swept}
 use Rattle.uses.specs.AllUses.{FrameUses}
-use Rattle.uses.proofs.PassLaws.{swept_room, swept_of, upto_none, upto_next}
-use Rattle.std.proofs.Common.{rules}
 use Rattle.engine.proofs.q_facts.frames.Given as goal
 
 abbrev pub invariant-loop-f : goal.invariant-loop-f

@@ -1,14 +1,7 @@
 -- Without frames nothing is done. Else the stretches that are counted before i are done.
-use mathlib.Core.Path.{◌≡◌}
-use Prim.Native.Nat.{◌*◌, ◌≤◌, ◌-◌}
 use native.Mathlib.Omega.{arith}
-use Rattle.uses.specs.Uses.{Upto}
-use Rattle.uses.specs.Passing.{Swept}
-use Rattle.uses.specs.AllUses.{QStretches}
-use Rattle.uses.proofs.PassLaws.{swept_room, swept_of, upto_none, upto_next, upto_spent}
+use Rattle.uses.proofs.PassLaws.{upto_none, upto_next, upto_spent}
 use Rattle.engine.proofs.EmptyStretches.{no_frames}
-use Rattle.uses.proofs.StretchNumbers.{stretches_small}
-use Rattle.std.proofs.Common.{rules}
 use Rattle.engine.proofs.q_facts.q_facts.Goals as goal
 
 pub returns-then-s-eq0 : goal.returns-then-s-eq0

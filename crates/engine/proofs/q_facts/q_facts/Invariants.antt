@@ -1,14 +1,8 @@
 -- Without frames nothing is done. Else the stretches that are counted before i are done.
-use mathlib.Core.Path.{◌≡◌}
-use Prim.Native.Nat.{◌*◌, ◌≤◌, ◌-◌}
-use native.Mathlib.Omega.{arith}
+use Prim.Native.Nat.{◌≤◌, ◌-◌}
 use Rattle.uses.specs.Uses.{Upto}
 use Rattle.uses.specs.Passing.{Swept}
 use Rattle.uses.specs.AllUses.{QStretches}
-use Rattle.uses.proofs.PassLaws.{swept_room, swept_of, upto_none, upto_next, upto_spent}
-use Rattle.engine.proofs.EmptyStretches.{no_frames}
-use Rattle.uses.proofs.StretchNumbers.{stretches_small}
-use Rattle.std.proofs.Common.{rules}
 use Rattle.engine.proofs.q_facts.q_facts.Given as goal
 
 abbrev pub invariant-loop-i : goal.invariant-loop-i

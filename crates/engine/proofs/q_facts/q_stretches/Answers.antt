@@ -1,11 +1,9 @@
 -- If the stretches have no mark, nothing is done; else rules 6 and 3 for each frame, and then rule 7.
 use native.Mathlib.Omega.{arith}
-use borrow.Author.Tests.{not-true}
 use Rattle.store.proofs.MarkLaws.{is_false}
-use Rattle.uses.proofs.PassLaws.{swept_room, and_then}
-use Rattle.uses.proofs.StretchNumbers.{k_pos, frames_small, stretch_thread, stretch_pair, q_room}
+use Rattle.uses.proofs.PassLaws.{and_then}
+use Rattle.uses.proofs.StretchNumbers.{q_room}
 use Rattle.engine.proofs.EmptyStretches.{q_stretches_empty}
-use Rattle.std.proofs.Common.{rules}
 use Rattle.engine.proofs.q_facts.q_stretches.Goals as goal
 
 pub some-requires : goal.some-requires

@@ -1,12 +1,9 @@
 -- The start facts of the first t threads are marked.
-use mathlib.Core.Path.{◌≡◌, refl, ap, ◌∙◌}
-use Prim.Native.Nat.{◌≤◌, ◌-◌}
+use mathlib.Core.Path.{refl, ap, ◌∙◌}
 use native.Mathlib.Omega.{arith}
 use Rattle.store.specs.Marking.{room}
 use Rattle.store.proofs.MarkLaws.{put_room}
-use Rattle.engine.specs.Starting.{begun}
 use Rattle.engine.proofs.StartLaws.{begun_none, begun_next}
-use Rattle.std.proofs.Common.{rules}
 use Rattle.engine.proofs.run.start.Goals as goal
 
 pub loop-t-init : goal.loop-t-init

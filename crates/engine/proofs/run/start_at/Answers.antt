@@ -1,10 +1,9 @@
 -- The start fact leads from its pair to the same pair, so it stands in the part of the P facts, and its numbers are small.
-use mathlib.Core.Path.{◌≡◌, sym, ap, subst, ◌∙◌}
-use Prim.Native.Nat.{ℕ, ◌+◌, ◌*◌, ◌≤◌, ◌<◌}
+use mathlib.Core.Path.{◌≡◌, ap, ◌∙◌}
+use Prim.Native.Nat.{◌+◌, ◌*◌, ◌≤◌, ◌<◌}
 use native.Mathlib.Omega.{arith}
 use Rattle.positions.proofs.Places.{p_line, ck_small, parts}
 use Rattle.engine.specs.StartFacts.{start_at}
-use Rattle.std.proofs.Common.{rules}
 use Rattle.engine.proofs.run.start_at.Goals as goal
 
 place : (c : goal.After-p_at-p) → let s = c.args.s in let d = c.pair_of-c.result in (c.p_at-p.result + d * s.k < s.w) × (d * s.k ≤ 65536) × (s.w ≤ 2360320)

@@ -2,9 +2,7 @@
 -- every use was: if nothing was put, nothing lacks; if none is left, nothing is claimed; else another round begins.
 use native.Mathlib.Omega.{arith}
 use Rattle.store.proofs.MarkLaws.{is_true}
-use Rattle.uses.proofs.StretchNumbers.{stretches_small}
 use Rattle.engine.proofs.TurnLaws.{begins_anew, all_covered, all_fewer, ends_settled, ends_spent}
-use Rattle.std.proofs.Common.{rules}
 use Rattle.engine.proofs.turns.end_of_round.Goals as goal
 
 pub returns-then-put_more : goal.returns-then-put_more

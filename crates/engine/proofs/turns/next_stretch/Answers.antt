@@ -1,13 +1,11 @@
 -- No stretch from i up to this one has a mark.
 use mathlib.Core.Path.{subst}
-use Prim.Native.Nat.{◌*◌, ◌-◌, ◌<◌, ◌≤◌}
 use native.Mathlib.Omega.{arith}
-use Rattle.store.proofs.MarkLaws.{is_true, is_false}
+use Rattle.store.proofs.MarkLaws.{is_false}
 use Rattle.positions.proofs.Places.{parts}
 use Rattle.engine.specs.Turns.{NoneBetween}
-use Rattle.uses.proofs.StretchNumbers.{stretches_small, p_room}
+use Rattle.uses.proofs.StretchNumbers.{p_room}
 use Rattle.engine.proofs.NextStretch.{stretches_end, none_more}
-use Rattle.std.proofs.Common.{rules}
 use Rattle.engine.proofs.turns.next_stretch.Goals as goal
 
 pub some-requires : goal.some-requires

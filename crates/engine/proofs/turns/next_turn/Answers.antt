@@ -1,10 +1,7 @@
 -- The stretch was gone over by rules 4, 5 and 2. If none is left, the work ends; if the stretch gave something, it has its turn again; else the next
 -- stretch with a mark has, and if there is none the round ends.
-use native.Mathlib.Omega.{arith}
-use Rattle.uses.proofs.PassLaws.{swept_room, and_then}
-use Rattle.uses.proofs.StretchNumbers.{k_pos, stretches_small, stretch_thread, stretch_pair}
+use Rattle.uses.proofs.PassLaws.{and_then}
 use Rattle.engine.proofs.TurnLaws.{goes_spent, goes_again, goes_next, stretches_done}
-use Rattle.std.proofs.Common.{rules}
 use Rattle.engine.proofs.turns.next_turn.Goals as goal
 
 pub returns-then-left-eq0 : goal.returns-then-left-eq0

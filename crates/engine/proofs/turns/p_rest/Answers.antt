@@ -4,7 +4,6 @@ use Rattle.positions.proofs.Places.{p_stretch, parts}
 use Rattle.uses.specs.Uses.{Upto}
 use Rattle.uses.specs.RuleUses.{MovedFrom}
 use Rattle.uses.proofs.PassLaws.{swept_room, swept_of, and_then}
-use Rattle.std.proofs.Common.{rules}
 use Rattle.engine.proofs.turns.p_rest.Goals as goal
 
 pub guarantees-requires : goal.guarantees-requires

@@ -1,7 +1,7 @@
 -- `engine::work::work` meets its contract: it owns the list of step rows, and lends the first n of them to rule 4's walker in each turn.
-use Rattle.std.proofs.Common.{rules, arith, ◌≤◌, ◌<◌, ◌≡◌, length}
-use Rattle.engine.specs.Turns.{stretch_count, Goes}
-use Rattle.engine.proofs.WorkLaws.{begins_so, in_stretches, ends_so, walk_asks, next_asks, stepped}
+use Rattle.std.proofs.Common.{rules, arith, ◌≤◌, ◌≡◌, length}
+use Rattle.engine.specs.Turns.{Goes}
+use Rattle.engine.proofs.WorkLaws.{begins_so, ends_so, stepped}
 use Rattle.engine.proofs.work.work.Goals as goal
 
 -- the list has room for n rows
