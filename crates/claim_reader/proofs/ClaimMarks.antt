@@ -39,6 +39,7 @@ module _ (w : ℕ) where
   -- each position is marked
   all_put : (ps mem : List ℕ) (least q : ℕ) → AscendingFrom w least ps → room mem ≡ w → Memᴰ q ps → Has (marked_all mem ps) q
   unfolding marked_all
+  all_put [] mem least q a r x3 = elim x3 [ ]
   all_put (p ∷ ps) mem least q a r (Memᴰ.head e) =
       all_kept ps (marked mem p) _ q a.2 (put_room mem p ∙ r) (rw e (has_put mem p (omega arith)))
   all_put (p ∷ ps) mem least q a r (Memᴰ.tail i) = all_put ps (marked mem p) _ q a.2 (put_room mem p ∙ r) i

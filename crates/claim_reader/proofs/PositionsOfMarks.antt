@@ -27,6 +27,7 @@ ascending_lower w least least' [] h a = tt
 ascending_lower w least least' (p ∷ ps) h a = (omega arith, a.1, a.2)
 
 ascending_in : (w least : ℕ) (ps : List ℕ) (q : ℕ) → AscendingFrom w least ps → Memᴰ q ps → (least ≤ q) × (q < w)
+ascending_in w least [] q a x'' = elim x'' [ ]
 ascending_in w least (p ∷ ps) q a (Memᴰ.head e) = omega arith
 ascending_in w least (p ∷ ps) q a (Memᴰ.tail i) = omega (arith, ascending_in w (p + 1) ps q a.2 i)
 
@@ -54,7 +55,7 @@ ascending_same w a b (p ∷ ps) (q ∷ qs) h k to fro =
     let fro' : Within (q ∷ qs) (q ∷ ps) = rw e at fro in
     let h' : AscendingFrom w (q + 1) ps = rw e at h.2 in
     ap₂ (λ (x : ℕ) (xs : List ℕ). x ∷ xs) e
-    (ascending_same w _ _ ps qs h' k.2 (within_tail w q ps qs h' to') (within_tail w q qs ps k.2 fro'))
+    (ascending_same w (q + 1) (q + 1) ps qs h' k.2 (within_tail w q ps qs h' to') (within_tail w q qs ps k.2 fro'))
 
 -- ---- the marked positions
 
