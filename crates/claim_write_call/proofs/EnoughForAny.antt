@@ -13,6 +13,7 @@ use Rattle.files.proofs.WLaws.{W_max}
 use Rattle.files.proofs.TableLaws.{table_sound}
 use Rattle.model.proofs.FactCounts.{exceeds_below_W}
 use Rattle.check_call.specs.Checking as check
+use Rattle.check_call.specs.declared.answer.Answer.TheVariants.{Short}
 use Rattle.check_call.proofs.Unique.{got_table}
 use Rattle.claim_reader.proofs.ClaimLength.{claim_length}
 use Rattle.claim_write_call.specs.declared.answer.WriteAnswer.{WriteAnswer}
@@ -24,6 +25,10 @@ use Rattle.claim_write_call.specs.AnyTable.{RefusedOrWritten, refused, written}
 claim_of_length : {s bytes : List ℕ} {T : Table} → ClaimOf s T bytes → length bytes ≤ W T + 5
 claim_of_length {T = T} c = rw c.written (claim_length (W T) c.positions c.facts.ascending)
 
+-- the memory that is too short is shorter than W
+short_below : {T : Table} {budget w : ℕ} {m m' : List ℕ} → check.OfTable T budget m (Short w) m' → length m < W T
+short_below (check.short i) = i
+
 module _ {s : List ℕ} {budget : ℕ} {m d : List ℕ} where
   pub no_space_is_short : {T : Table} {n needed : ℕ} {m' d' : List ℕ} → table_at s ≡ got T n → ClaimWritten s budget m d (NoSpace needed) m' d'
       → length d < W T + 5
@@ -32,7 +37,8 @@ module _ {s : List ℕ} {budget : ℕ} {m d : List ℕ} where
   pub refused_or_written : {a : WriteAnswer} {m' d' : List ℕ} → most_facts ≤ length m → most_facts ≤ budget → most_facts + 5 ≤ length d
       → ClaimWritten s budget m d a m' d' → RefusedOrWritten a
   refused_or_written h b l (writing.refused c) = refused
-  refused_or_written h b l (writing.short (check.read {T} {next} e (check.short i))) = absurd (omega (arith, W_max T (table_sound s T next e)))
+  refused_or_written h b l (writing.short (check.read {T} {next} e o)) =
+      absurd (omega (arith, short_below o, W_max T (table_sound s T next e)))
   refused_or_written h b l (writing.over (check.read {T} {next} e (check.over i x z))) =
       let sound = table_sound s T next e in
       absurd (omega (arith, W_max T sound, exceeds_below_W sound x))
