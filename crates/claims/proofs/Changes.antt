@@ -37,20 +37,28 @@ finished = record { nothing = λ h. absurd (omega arith); clears = λ h. absurd 
 clearing : {s m m' : List ℕ} {number : ℕ} {T : Table} {n : ℕ} → 8 ≤ number → table_at s ≡ got T n → Cleared (W T) m m' → Changes s m m' number
 clearing l e c = record { nothing = λ _ h. absurd (omega arith); clears = λ _. (_, _, e, c) }
 
+table_changes : {s : List ℕ} {T : Table} {n budget : ℕ} {m m' : List ℕ} {a : Answer} → table_at s ≡ got T n → check.OfTable T budget m a m'
+    → Changes s m m' (reply_of a).number
+table_changes e (check.short l) = unchanged (omega arith)
+table_changes e (check.over h x c) = clearing (omega arith) e c
+table_changes e (check.done h f) = finished
+
 pub check_changes : {s : List ℕ} {budget : ℕ} {m m' : List ℕ} {a : Answer} → Checked s budget m a m' → Changes s m m' (reply_of a).number
 check_changes (check.refused {x} e) = refused x
-check_changes (check.read e (check.short l)) = unchanged (omega arith)
-check_changes (check.read e (check.over h x c)) = clearing (omega arith) e c
-check_changes (check.read e (check.done h f)) = finished
+check_changes (check.read e o) = table_changes e o
+
+against_changes : {s : List ℕ} {T : Table} {n : ℕ} {c m m' : List ℕ} {a : ClaimAnswer} → table_at s ≡ got T n → claims.AgainstTable T c m a m'
+    → Changes s m m' (claim.claim_reply_of a).number
+against_changes e (claims.short l) = unchanged (omega arith)
+against_changes e (claims.claim_refused {x} h q) = refused x
+against_changes e (claims.claim_read h q (claims.done x)) = finished
+against_changes e (claims.claim_read h q (claims.lacking x)) = clearing (omega arith) e x.cleared
+against_changes e (claims.claim_read h q (claims.missing x)) = clearing (omega arith) e x.cleared
+against_changes e (claims.claim_read h q (claims.allowing x)) = clearing (omega arith) e x.cleared
 
 pub claim_changes : {s c m m' : List ℕ} {a : ClaimAnswer} → ClaimChecked s c m a m' → Changes s m m' (claim.claim_reply_of a).number
 claim_changes (claims.table_refused {x} e) = refused x
-claim_changes (claims.table_read e (claims.short l)) = unchanged (omega arith)
-claim_changes (claims.table_read e (claims.claim_refused {x} h q)) = refused x
-claim_changes (claims.table_read e (claims.claim_read h q (claims.done x))) = finished
-claim_changes (claims.table_read e (claims.claim_read h q (claims.lacking x))) = clearing (omega arith) e x.cleared
-claim_changes (claims.table_read e (claims.claim_read h q (claims.missing x))) = clearing (omega arith) e x.cleared
-claim_changes (claims.table_read e (claims.claim_read h q (claims.allowing x))) = clearing (omega arith) e x.cleared
+claim_changes (claims.table_read e o) = against_changes e o
 
 -- and no refusal touches the space
 pub write_changes : {s : List ℕ} {budget : ℕ} {m d m' d' : List ℕ} {a : WriteAnswer} → ClaimWritten s budget m d a m' d'

@@ -2,7 +2,7 @@
 -- A cell that is refused refuses its row, a row its list or the header, and these the file; and nothing before the cell is refused, since it was read.
 use mathlib.Core.Path.{◌≡◌, sym, ap, ◌∙◌}
 use mathlib.Core.List.{List, ◌∷◌, ◌++◌}
-use Prim.Native.Nat.{ℕ, zero, suc, ◌<◌}
+use Prim.Native.Nat.{ℕ, ◌<◌}
 use native.Mathlib.Omega.{arith}
 use Rattle.numbers.specs.declared.refusals.Refusal.{Refusal}
 use Rattle.numbers.specs.declared.refusals.Refusal.TheVariants.{Outside}
@@ -10,7 +10,7 @@ use Rattle.numbers.specs.Reading.{got, bad, number_at}
 use Rattle.numbers.proofs.ReadingLaws.{never}
 use Rattle.cells.specs.declared.columns.Column.{Column}
 use Rattle.cells.specs.Columns.{OutOf}
-use Rattle.cells.specs.Rows.{cell_at, row_at}
+use Rattle.cells.specs.Rows.{row_at}
 use Rattle.cells.proofs.RowStops.{cell_outside, row_refused, count_refused}
 use Rattle.lists.specs.Lists.{list_at}
 use Rattle.lists.proofs.ListLaws.{list_uncounted}

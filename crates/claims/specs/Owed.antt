@@ -4,7 +4,7 @@
 --     IsAccepted         demands 2 and 3, that a claim is accepted
 --     RoomForClaim       demand 3, that there is room for the claim
 --     RunsSafely         demand 3, that no run of a file's table meets an error state
-use Rattle.std.specs.Prelude.{◌≡◌, List, [], ◌∷◌, ◌++◌, ℕ, suc, ◌+◌, ◌≤◌, ◌<◌, length, get_or}
+use Rattle.std.specs.Prelude.{◌≡◌, List, [], ◌∷◌, ℕ, suc, ◌+◌, ◌≤◌, ◌<◌, length, get_or}
 use Rattle.numbers.specs.Reading.{got, field_at, version_at}
 use Rattle.cells.specs.declared.columns.Column.{Column}
 use Rattle.cells.specs.declared.columns.Column.TheVariants.{Within}
