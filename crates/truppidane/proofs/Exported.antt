@@ -6,7 +6,7 @@
 --     check_0_exactly                       demand 2: where r is 0, the value and the verdict told are those of the least relations
 --     claim_0_safe, check_0_safe            demand 3: 0, and 0 with verdict 1, mean that no run meets an error state
 --     possible_never_0                      and 0 with verdict 2 that no claim is answered with 0
-use mathlib.Core.Path.{◌≡◌, refl, sym, ap, subst, subst⁻¹, ◌∙◌}
+use mathlib.Core.Path.{◌≡◌, sym, ap, subst, subst⁻¹, ◌∙◌}
 use mathlib.Core.List.{List}
 use Prim.Native.Nat.{ℕ, ◌≤◌}
 use native.Mathlib.Omega.{arith}
