@@ -9,9 +9,9 @@ use claim_check_call::answer::claim_reply_of;
 use claim_check_call::check::check_claim;
 use claim_report::checked::checked_line;
 use files::header::MOST_FACTS;
-use inputs::reading::{Input, read_argument, read_table};
-use inputs::telling::{print, say_refusal};
-use libc::STDERR_FILENO;
+use inputs::reading::{Input, has_argument, read_argument, read_table};
+use inputs::telling::{Say, print, say_refusal};
+use std::rt::{Env, Files};
 use text::lines::ROOM;
 
 // Working memory for any table. The `ensures` gives its length, which lending it asks.
@@ -32,34 +32,34 @@ fn room() -> [u8; CLAIM_ROOM]
 }
 
 // Checks a claim against a table, and prints the answer; a refusal is said in words too.
-fn run(table: &[u8], claim: &[u8]) {
+fn run(rt: &(impl Print + Say), table: &[u8], claim: &[u8]) {
     let mut mem = memory();
     let answer = check_claim(table, claim, &mut mem);
     let mut line = [0u8; ROOM];
     let length = checked_line(answer, &mut line);
-    if print(&line[..length]) {
-        say_refusal(claim_reply_of(answer));
+    if print(rt, &line[..length]) {
+        say_refusal(rt, claim_reply_of(answer));
     }
 }
 
 // Reads the claim, and checks it against a table.
-fn check_against(table: &[u8]) {
+fn check_against(rt: &(impl Env + Files + Print + Say), table: &[u8]) {
     let mut claim = room();
-    match read_argument(2, &mut claim) {
-        Input::Bytes { count } => run(table, &claim[..count]),
+    match read_argument(rt, 2, &mut claim) {
+        Input::Bytes { count } => run(rt, table, &claim[..count]),
         Input::Unread => {}
     }
 }
 
-fn main() {
-    if os::arg_count() != 3 {
-        io::write_all(STDERR_FILENO, b"usage: claim_check TABLE CLAIM\n");
+fn main(rt: HostRuntime) {
+    if !has_argument(&rt, 2) || has_argument(&rt, 3) {
+        rt.say(b"usage: claim_check TABLE CLAIM\n");
         return;
     }
     // what comes back of so many bytes comes back of the whole file (`claims:Cuts.claim-check-cut`)
-    let mut table = io::large_buffer();
-    match read_table(&mut table) {
-        Input::Bytes { count } => check_against(&table[..count]),
+    let mut table = [0u8; 65536];
+    match read_table(&rt, &mut table) {
+        Input::Bytes { count } => check_against(&rt, &table[..count]),
         Input::Unread => {}
     }
 }

@@ -11,9 +11,13 @@ use claim_report::written::{bytes_line, first_line, verdict_line};
 use claim_write_call::answer::{WriteAnswer, write_reply_of};
 use claim_write_call::write::write_claim;
 use files::header::MOST_FACTS;
-use inputs::reading::{Input, read_table};
-use inputs::telling::{cannot, cannot_argument, print, say_refusal};
-use libc::STDERR_FILENO;
+use inputs::names::path_of;
+use inputs::reading::{Input, NAME_ROOM, has_argument, read_table};
+use inputs::telling::{Say, cannot, cannot_argument, print, say_refusal};
+use std::fs::OpenFile;
+use std::io::{ErrorKind, Write};
+use std::rt::{Env, Files};
+use std::{fs, io};
 use text::lines::ROOM;
 
 // Working memory for any table: the largest W.
@@ -34,48 +38,60 @@ fn space() -> [u8; CLAIM_MOST]
 }
 
 // Prints the lines of an answer, as far as they can be printed; a refusal is said in words too.
-fn tell(table: &[u8], answer: WriteAnswer) {
+fn tell(rt: &(impl Print + Say), table: &[u8], answer: WriteAnswer) {
     let mut line = [0u8; ROOM];
     let first = first_line(answer, &mut line);
-    if !print(&line[..first]) {
+    if !print(rt, &line[..first]) {
         return;
     }
     let second = verdict_line(table, answer, &mut line);
-    if !print(&line[..second]) {
+    if !print(rt, &line[..second]) {
         return;
     }
     let third = bytes_line(answer, &mut line);
-    if print(&line[..third]) {
-        say_refusal(write_reply_of(answer));
+    if print(rt, &line[..third]) {
+        say_refusal(rt, write_reply_of(answer));
     }
+}
+
+// Waits until the system has what was written to a file, since what it says of that only as the file is closed is lost. A file that has nothing to
+// wait for, as a pipe, answers that this is not to be asked of it.
+fn settle(file: &impl OpenFile) -> io::Result<()> {
+    match file.sync_all() {
+        Err(why) if why.kind() != ErrorKind::InvalidInput => Err(why),
+        _ => Ok(()),
+    }
+}
+
+// Writes a claim to the file of a name in place of what it holds, and closes it.
+fn overwrite(rt: &impl Files, claim: &[u8], name: &[u8]) -> io::Result<()> {
+    let mut file = fs::create(rt, path_of(name)?)?;
+    file.write_all(claim)?;
+    settle(&file)
 }
 
 // Writes a claim to the file of a name, and gives whether it is written. Where it is not says so, after the file is closed: where standard error
 // was closed from the start, the file has its number.
-fn write(claim: &[u8], name: &[u8]) -> bool {
-    let file = os::open_overwrite(name);
-    if file < 0 {
-        cannot(b"cannot write ", name);
-        return false;
+fn write(rt: &(impl Files + Say), claim: &[u8], name: &[u8]) -> bool {
+    match overwrite(rt, claim, name) {
+        Ok(()) => true,
+        Err(why) => {
+            cannot(rt, b"cannot write ", name, why);
+            false
+        }
     }
-    let is_whole = io::write_all(file, claim);
-    let is_closed = libc::close(file) >= 0;
-    if is_whole && is_closed {
-        return true;
-    }
-    cannot(b"cannot write ", name);
-    false
 }
 
 // Writes a claim to the file that the second argument names, and gives whether it is written. Where it is not says so.
-fn save(claim: &[u8]) -> bool {
-    let mut name = io::buffer();
-    let length = os::arg(2, &mut name);
-    if os::errno() != 0 {
-        cannot_argument(b"cannot write ", 2);
-        return false;
+fn save(rt: &(impl Env + Files + Say), claim: &[u8]) -> bool {
+    let mut name = [0u8; NAME_ROOM];
+    match rt.arg(2, &mut name) {
+        Ok(length) => write(rt, claim, &name[..length]),
+        Err(why) => {
+            cannot_argument(rt, b"cannot write ", 2, why);
+            false
+        }
     }
-    write(claim, &name[..length])
 }
 
 // Checks any table and writes its claim: the table is refused, or the claim is written. No table has more facts than the memory and the budget, and no
@@ -87,7 +103,7 @@ fn write_any(table: &[u8], mem: &mut [u8; MOST_FACTS], space: &mut [u8; CLAIM_MO
 }
 
 // Checks a table and writes its claim.
-fn run(table: &[u8]) {
+fn run(rt: &(impl Env + Files + Print + Say), table: &[u8]) {
     let mut mem = memory();
     let mut space = space();
     let answer = write_any(table, &mut mem, &mut space);
@@ -97,23 +113,23 @@ fn run(table: &[u8]) {
             verdict: _,
             bytes,
         } => {
-            if save(&space[..bytes]) {
-                tell(table, answer);
+            if save(rt, &space[..bytes]) {
+                tell(rt, table, answer);
             }
         }
-        _ => tell(table, answer),
+        _ => tell(rt, table, answer),
     }
 }
 
-fn main() {
-    if os::arg_count() != 3 {
-        io::write_all(STDERR_FILENO, b"usage: claim_write TABLE CLAIM\n");
+fn main(rt: HostRuntime) {
+    if !has_argument(&rt, 2) || has_argument(&rt, 3) {
+        rt.say(b"usage: claim_write TABLE CLAIM\n");
         return;
     }
     // what comes back of so many bytes comes back of the whole file (`claims:Cuts.claim-writing-cut`)
-    let mut table = io::large_buffer();
-    match read_table(&mut table) {
-        Input::Bytes { count } => run(&table[..count]),
+    let mut table = [0u8; 65536];
+    match read_table(&rt, &mut table) {
+        Input::Bytes { count } => run(&rt, &table[..count]),
         Input::Unread => {}
     }
 }

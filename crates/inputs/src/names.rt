@@ -1,5 +1,8 @@
 // Names of files.
+ghost use Rattle.std.specs.Prelude.{◌≡◌, ◌↔◌, IfOk, IsOk, IsUtf8};
 ghost use Rattle.inputs.specs.Names.{SameName};
+
+use std::io;
 
 // Whether two names are the same, byte by byte.
 pub fn same_name(a: &[u8], b: &[u8]) -> bool
@@ -16,4 +19,18 @@ pub fn same_name(a: &[u8], b: &[u8]) -> bool
         i += 1;
     }
     true
+}
+
+// The system's number of the error that bytes are no text.
+const NO_TEXT: i32 = 84;
+
+// A name as std takes it to open its file: as text. A name that is none is refused, as the system refuses bytes that are no text.
+pub fn path_of(name: &[u8]) -> io::Result<&str>
+    ensures text { IfOk result (λ path. path.now ≡ name.now) }
+    ensures refused { IsOk result ↔ IsUtf8 name.now }
+{
+    match str::from_utf8(name) {
+        Ok(path) => Ok(path),
+        Err(_) => Err(io::Error::from_raw_os_error(NO_TEXT)),
+    }
 }

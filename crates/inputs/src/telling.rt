@@ -2,41 +2,80 @@
 ghost use Rattle.inputs.specs.Outputs.{Printed};
 
 use check_call::answer::Reply;
-use libc::{STDERR_FILENO, STDOUT_FILENO};
 use report::answers::reason_of_reply;
+use std::env::FillError;
+use std::fmt::InlineText;
+use std::io;
 use text::lines::ROOM;
 
-// Says what cannot be done with a file, by its name and the system's reason.
-pub fn cannot(what: &[u8], name: &[u8]) {
-    io::write_all(STDERR_FILENO, what);
-    os::fail(name);
+// What says bytes on standard error. `Eprint` takes text alone, and the name of a file may be none.
+pub trait Say {
+    // Where the system does not take them, there is no place left to say so.
+    fn say(&self, bytes: &[u8]);
 }
 
-// Says what cannot be done with argument i where `os::arg` gives no name: it is too long for one, or missing.
-pub fn cannot_argument(what: &[u8], i: usize) {
-    io::write_all(STDERR_FILENO, what);
-    io::write_all(STDERR_FILENO, b"argument ");
-    io::print_decimal(STDERR_FILENO, i as u64);
-    os::fail(b"");
+impl Say for HostRuntime {
+    fn say(&self, bytes: &[u8]) {
+        let _ = self.stderr().write_all(bytes);
+    }
+}
+
+// Room for an error as `Display` writes it: the system's reason, of some 50 bytes at most, and its number, as ` (os error 2)`.
+const WHY: usize = 128;
+
+// Ends a line with the system's reason.
+fn say_why(rt: &impl Say, why: io::Error) {
+    let told = InlineText::<WHY>::of(why);
+    let told = told.as_str();
+    let (reason, _) = told.split_once(" (os error ").unwrap_or((told, ""));
+    rt.say(b": ");
+    rt.say(reason.as_bytes());
+    rt.say(b"\n");
+}
+
+// Says what cannot be done with a file, by its name and the system's reason.
+pub fn cannot(rt: &impl Say, what: &[u8], name: &[u8], why: io::Error) {
+    rt.say(what);
+    rt.say(name);
+    say_why(rt, why);
+}
+
+// The system's numbers of the errors that an argument is not valid, and that a name is too long.
+const NOT_VALID: i32 = 22;
+
+const TOO_LONG: i32 = 36;
+
+// Says what cannot be done with argument i where `Env::arg` gives no name: it is too long for one, or missing.
+pub fn cannot_argument(rt: &impl Say, what: &[u8], i: usize, why: FillError) {
+    let number = match why {
+        FillError::NotPresent => NOT_VALID,
+        FillError::TooLong => TOO_LONG,
+    };
+    // 20 digits at most
+    let name = InlineText::<32>::of(format_args!("argument {i}"));
+    let why = io::Error::from_raw_os_error(number);
+    cannot(rt, what, name.as_str().as_bytes(), why);
 }
 
 // Prints bytes on standard output, and gives whether they are printed. Where they are not says so. No bytes are always printed.
-pub fn print(bytes: &[u8]) -> bool
+pub fn print(rt: &(impl Print + Say), bytes: &[u8]) -> bool
     ensures { Printed bytes.now result }
 {
     if bytes.len() == 0 {
         return true;
     }
-    if io::write_all(STDOUT_FILENO, bytes) {
-        return true;
+    match rt.write_all(bytes) {
+        Ok(()) => true,
+        Err(why) => {
+            cannot(rt, b"cannot write ", b"standard output", why);
+            false
+        }
     }
-    os::fail(b"cannot write standard output");
-    false
 }
 
 // Says a refusal in words, on standard error: what its value counts, and what is wrong. Of an answer that is none, nothing.
-pub fn say_refusal(reply: Reply) {
+pub fn say_refusal(rt: &impl Say, reply: Reply) {
     let mut line = [0u8; ROOM];
     let length = reason_of_reply(reply, &mut line);
-    io::write_all(STDERR_FILENO, &line[..length]);
+    rt.say(&line[..length]);
 }

@@ -7,9 +7,8 @@ ghost use Rattle.check_call.specs.Checking.{Checked};
 
 use check_call::answer::{Answer, reply_of};
 use check_call::check::check;
-use inputs::reading::{Input, read_standard_input};
-use inputs::telling::{print, say_refusal};
-use libc::STDERR_FILENO;
+use inputs::reading::{Input, has_argument, read_standard_input};
+use inputs::telling::{Say, print, say_refusal};
 use report::answers::{first_line, verdict_line};
 use report::facts::{Next, next_fact};
 use text::lines::ROOM;
@@ -27,14 +26,14 @@ fn check_on_bench(table: &[u8], mem: &mut Memory) -> Answer
 }
 
 // Prints the lines of an answer, and gives whether they are printed.
-fn tell(table: &[u8], answer: Answer) -> bool {
+fn tell(rt: &(impl Print + Say), table: &[u8], answer: Answer) -> bool {
     let mut line = [0u8; ROOM];
     let first = first_line(answer, &mut line);
-    if !print(&line[..first]) {
+    if !print(rt, &line[..first]) {
         return false;
     }
     let second = verdict_line(table, answer, &mut line);
-    print(&line[..second])
+    print(rt, &line[..second])
 }
 
 // The room for lines that are printed together.
@@ -61,7 +60,7 @@ struct Page {
 }
 
 // Puts a line on a page after its first `used` bytes. A page without room for the line is printed first and begun anew.
-fn put_line(line: &[u8], page: &mut [u8], used: usize) -> Page
+fn put_line(rt: &(impl Print + Say), line: &[u8], page: &mut [u8], used: usize) -> Page
     requires { (length line.now ≤ length page.old) × (used ≤ length page.old) }
     ensures { result.used ≤ length page.new }
 {
@@ -72,7 +71,7 @@ fn put_line(line: &[u8], page: &mut [u8], used: usize) -> Page
             printed: true,
         };
     }
-    let printed = print(&page[..used]);
+    let printed = print(rt, &page[..used]);
     let next = put(line, page, 0);
     Page {
         used: next,
@@ -81,7 +80,7 @@ fn put_line(line: &[u8], page: &mut [u8], used: usize) -> Page
 }
 
 // Prints the facts that are marked, a line each, as far as they can be printed.
-fn list(table: &[u8], mem: &Memory) {
+fn list(rt: &(impl Print + Say), table: &[u8], mem: &Memory) {
     let mut line = [0u8; ROOM];
     let mut page = [0u8; PAGE];
     let mut used = 0;
@@ -89,7 +88,7 @@ fn list(table: &[u8], mem: &Memory) {
     loop {
         match next_fact(table, mem, from, &mut line) {
             Next::Line { length, next } => {
-                let placed = put_line(&line[..length], &mut page, used);
+                let placed = put_line(rt, &line[..length], &mut page, used);
                 if !placed.printed {
                     return;
                 }
@@ -97,7 +96,7 @@ fn list(table: &[u8], mem: &Memory) {
                 from = next;
             }
             Next::End => {
-                print(&page[..used]);
+                print(rt, &page[..used]);
                 return;
             }
         }
@@ -105,29 +104,29 @@ fn list(table: &[u8], mem: &Memory) {
 }
 
 // Checks a table, and prints the answer: the facts too, if the check is done; else the refusal is said in words.
-fn run(table: &[u8]) {
-    let mut mem = io::large_buffer();
+fn run(rt: &(impl Print + Say), table: &[u8]) {
+    let mut mem: Memory = [0; 65536];
     let answer = check_on_bench(table, &mut mem);
-    if !tell(table, answer) {
+    if !tell(rt, table, answer) {
         return;
     }
     match answer {
         Answer::Done {
             count: _,
             verdict: _,
-        } => list(table, &mem),
-        _ => say_refusal(reply_of(answer)),
+        } => list(rt, table, &mem),
+        _ => say_refusal(rt, reply_of(answer)),
     }
 }
 
-fn main() {
-    if os::arg_count() > 1 {
-        io::write_all(STDERR_FILENO, b"usage: listing < TABLE\n");
+fn main(rt: HostRuntime) {
+    if has_argument(&rt, 1) {
+        rt.say(b"usage: listing < TABLE\n");
         return;
     }
-    let mut input = io::large_buffer();
-    match read_standard_input(&mut input) {
-        Input::Bytes { count } => run(&input[..count]),
+    let mut input = [0u8; 65536];
+    match read_standard_input(&rt, &mut input) {
+        Input::Bytes { count } => run(&rt, &input[..count]),
         Input::Unread => {}
     }
 }
