@@ -6,8 +6,8 @@
 
 use check_call::answer::Answer;
 use check_call::check::check;
-use libc::STDOUT_FILENO;
 use report::answers::{first_line, verdict_line};
+use std::io;
 use text::lines::ROOM;
 
 // ---- a check, and what comes back
@@ -19,26 +19,33 @@ const MOST: usize = 9600;
 const FILL: u8 = 0xAA;
 
 // Prints the lines of an answer.
-fn tell(table: &[u8], answer: Answer) {
+fn tell(rt: &impl Print, table: &[u8], answer: Answer) -> io::Result<()> {
     let mut line = [0u8; ROOM];
     let first = first_line(answer, &mut line);
-    io::write_all(STDOUT_FILENO, &line[..first]);
+    rt.write_all(&line[..first])?;
     let second = verdict_line(table, answer, &mut line);
-    io::write_all(STDOUT_FILENO, &line[..second]);
+    rt.write_all(&line[..second])
 }
 
 // Checks a table in the first bytes of a memory, and prints the answer.
-fn check_in(table: &[u8], mem: &mut [u8], bytes: usize, budget: usize) {
+fn check_in(
+    rt: &impl Print,
+    table: &[u8],
+    mem: &mut [u8],
+    bytes: usize,
+    budget: usize,
+) -> io::Result<()> {
     if bytes <= mem.len() {
         let answer = check(table, &mut mem[..bytes], budget);
-        tell(table, answer);
+        tell(rt, table, answer)?;
     }
+    Ok(())
 }
 
 // Checks a table in a memory of so many bytes.
-fn run(table: &[u8], bytes: usize, budget: usize) {
+fn run(rt: &impl Print, table: &[u8], bytes: usize, budget: usize) -> io::Result<()> {
     let mut mem = [FILL; MOST];
-    check_in(table, &mut mem, bytes, budget);
+    check_in(rt, table, &mut mem, bytes, budget)
 }
 
 // ---- the reference tables
@@ -50,69 +57,69 @@ const RECURSION: [u8; 29] = *b"\x01\x01\x02\x02\x01\x00\x00\x00\
     \x01\x00\x01\x01\x00\x01\
     \x01\x02\x01";
 
-fn run_recursion(bytes: usize, budget: usize) {
-    run(&RECURSION, bytes, budget);
+fn run_recursion(rt: &impl Print, bytes: usize, budget: usize) -> io::Result<()> {
+    run(rt, &RECURSION, bytes, budget)
 }
 
 // Memory and budget that are more than enough, exact, and one short.
-fn recursion() {
-    run_recursion(MOST, 65536);
-    run_recursion(36, 5);
-    run_recursion(36, 4);
-    run_recursion(35, 5);
+fn recursion(rt: &impl Print) -> io::Result<()> {
+    run_recursion(rt, MOST, 65536)?;
+    run_recursion(rt, 36, 5)?;
+    run_recursion(rt, 36, 4)?;
+    run_recursion(rt, 35, 5)
 }
 
 // W is 2, and there is one fact.
 const SMALLEST: [u8; 12] = [1, 1, 1, 1, 0, 0, 0, 0, 0, 0, 0, 0];
 
-fn smallest() {
+fn smallest(rt: &impl Print) -> io::Result<()> {
     let table = SMALLEST;
-    run(&table, MOST, 1);
-    run(&table, MOST, 0);
-    run(&table, 1, 1);
-    run(&table[..11], MOST, 1);
-    run(&table[..0], MOST, 1);
+    run(rt, &table, MOST, 1)?;
+    run(rt, &table, MOST, 0)?;
+    run(rt, &table, 1, 1)?;
+    run(rt, &table[..11], MOST, 1)?;
+    run(rt, &table[..0], MOST, 1)?;
     let failed: [u8; 12] = [1, 1, 1, 1, 0, 1, 0, 0, 0, 0, 0, 0];
-    run(&failed, MOST, 1);
+    run(rt, &failed, MOST, 1)?;
     let five_threads: [u8; 12] = [1, 5, 1, 1, 0, 0, 0, 0, 0, 0, 0, 0];
-    run(&five_threads, MOST, 1);
+    run(rt, &five_threads, MOST, 1)?;
     let longer: [u8; 13] = [1, 1, 1, 1, 0, 0, 0, 0, 0, 0, 0, 0, 0];
-    run(&longer, MOST, 1);
+    run(rt, &longer, MOST, 1)
 }
 
 // W is 9,600, and there are 57 facts.
-fn training() {
+fn training(rt: &impl Print) -> io::Result<()> {
     let table = training::file();
-    run(&table, MOST, 57);
-    run(&table, MOST, 56);
-    run(&table, 9599, 57);
+    run(rt, &table, MOST, 57)?;
+    run(rt, &table, MOST, 56)?;
+    run(rt, &table, 9599, 57)
 }
 
 // The training table's program with two threads and a true/false mutex: W is 2 * (16 + 28 * 28) = 1,600.
-fn mutex() {
+fn mutex(rt: &impl Print) -> io::Result<()> {
     let table = training::mutex_file();
-    run(&table, MOST, 80);
-    run(&table, MOST, 79);
-    run(&table, 1599, 80);
+    run(rt, &table, MOST, 80)?;
+    run(rt, &table, MOST, 79)?;
+    run(rt, &table, 1599, 80)
 }
 
 // ---- rows that a check must not pass over
 
 // A row leaves the failed store, where the thread starts. It is followed like any other, so there are three facts: the start, where the row leads,
 // and its guarantee.
-fn leaving_the_failed_store() {
+fn leaving_the_failed_store(rt: &impl Print) -> io::Result<()> {
     let table: [u8; 17] = [1, 1, 1, 2, 0, 1, 0, 0, 1, 0, 0, 0, 0, 1, 0, 0, 0];
-    run(&table, MOST, 65536);
+    run(rt, &table, MOST, 65536)
 }
 
 // A call returns to a local store that is reached in no other way, and that is an error: four facts, of which rule 7 gives the last.
-fn returning() {
+fn returning(rt: &impl Print) -> io::Result<()> {
     let table: [u8; 24] = *b"\x01\x01\x01\x03\x01\x00\x00\x00\
         \x00\
         \x01\x00\x00\x00\x01\x00\
         \x01\x00\x00\x01\x00\x02\
         \x01\x00\x03";
-    run(&table, MOST, 65536);
+    run(rt, &table, MOST, 65536)
 }
 
 // ---- the bytes that a check leaves alone
@@ -131,30 +138,34 @@ fn changed(mem: &[u8; MOST], from: usize) -> usize {
 }
 
 // Checks a table in the first bytes of a larger memory, and prints besides how many bytes of that are changed from `from` on.
-fn watch(table: &[u8], bytes: usize, budget: usize, from: usize) {
+fn watch(
+    rt: &impl Print,
+    table: &[u8],
+    bytes: usize,
+    budget: usize,
+    from: usize,
+) -> io::Result<()> {
     let mut mem = [FILL; MOST];
-    check_in(table, &mut mem, bytes, budget);
-    io::write_all(STDOUT_FILENO, b"changed ");
-    io::print_decimal(STDOUT_FILENO, changed(&mem, from) as u64);
-    io::write_all(STDOUT_FILENO, b"\n");
+    check_in(rt, table, &mut mem, bytes, budget)?;
+    println!(rt; "changed {}", changed(&mem, from))
 }
 
-fn watch_recursion(bytes: usize, budget: usize, from: usize) {
-    watch(&RECURSION, bytes, budget, from);
+fn watch_recursion(rt: &impl Print, bytes: usize, budget: usize, from: usize) -> io::Result<()> {
+    watch(rt, &RECURSION, bytes, budget, from)
 }
 
 // Where the check is done or there are more facts than the budget, the first W bytes change, from 0xAA to 0 or 1, and those from W on do not;
 // where the memory is short or the table is refused, none does.
-fn left_alone() {
-    watch_recursion(MOST, 5, 0);
-    watch_recursion(MOST, 5, 36);
-    watch_recursion(MOST, 4, 36);
-    watch_recursion(35, 5, 0);
+fn left_alone(rt: &impl Print) -> io::Result<()> {
+    watch_recursion(rt, MOST, 5, 0)?;
+    watch_recursion(rt, MOST, 5, 36)?;
+    watch_recursion(rt, MOST, 4, 36)?;
+    watch_recursion(rt, 35, 5, 0)?;
     let table = RECURSION;
-    watch(&table[..28], MOST, 5, 0);
+    watch(rt, &table[..28], MOST, 5, 0)?;
     let mutex = training::mutex_file();
-    watch(&mutex, MOST, 80, 1600);
-    watch(&mutex, MOST, 79, 1600);
+    watch(rt, &mutex, MOST, 80, 1600)?;
+    watch(rt, &mutex, MOST, 79, 1600)
 }
 
 // ---- the kinds of facts
@@ -187,48 +198,46 @@ fn marks_from(mem: &[u8], p: usize) -> usize {
     0
 }
 
-fn tell_marks(letter: &[u8], n: usize) {
-    io::write_all(STDOUT_FILENO, letter);
-    io::print_decimal(STDOUT_FILENO, n as u64);
-    io::write_all(STDOUT_FILENO, b"\n");
+fn tell_marks(rt: &impl Print, letter: char, n: usize) -> io::Result<()> {
+    println!(rt; "{letter} {n}")
 }
 
 // Of the training table's facts, the G facts stand at the first 3 * 8 * 8 positions, and the P facts at the others.
-fn kinds() {
+fn kinds(rt: &impl Print) -> io::Result<()> {
     let mut mem = [FILL; MOST];
     let table = training::file();
-    check_in(&table, &mut mem, MOST, 57);
-    tell_marks(b"G ", marks_before(&mem, 192));
-    tell_marks(b"P ", marks_from(&mem, 192));
+    check_in(rt, &table, &mut mem, MOST, 57)?;
+    tell_marks(rt, 'G', marks_before(&mem, 192))?;
+    tell_marks(rt, 'P', marks_from(&mem, 192))
 }
 
 // ---- the limits of the sizes
 
 // A table of each size at its limit, the other sizes as small as they may be, and the same with one more.
-fn limits() {
+fn limits(rt: &impl Print) -> io::Result<()> {
     // threads: W is 8; each is at its start, and all are at the failed store
     let threads: [u8; 15] = [1, 4, 1, 1, 0, 1, 0, 0, 0, 0, 0, 0, 0, 0, 0];
-    run(&threads, 8, 4);
+    run(rt, &threads, 8, 4)?;
     let threads_5: [u8; 15] = [1, 5, 1, 1, 0, 1, 0, 0, 0, 0, 0, 0, 0, 0, 0];
-    run(&threads_5, 8, 4);
+    run(rt, &threads_5, 8, 4)?;
     // shared stores: W is 512; a step from the last to the first
     let shared: [u8; 17] = [1, 1, 16, 1, 0, 0, 15, 0, 1, 0, 15, 0, 0, 0, 0, 0, 0];
-    run(&shared, 512, 3);
+    run(rt, &shared, 512, 3)?;
     let shared_17: [u8; 17] = [1, 1, 17, 1, 0, 0, 15, 0, 1, 0, 15, 0, 0, 0, 0, 0, 0];
-    run(&shared_17, 512, 3);
+    run(rt, &shared_17, 512, 3)?;
     // local stores: W is 257; a step from the last to the first
     let local: [u8; 17] = [1, 1, 1, 16, 0, 0, 0, 15, 1, 0, 0, 15, 0, 0, 0, 0, 0];
-    run(&local, 257, 3);
+    run(rt, &local, 257, 3)?;
     let local_17: [u8; 17] = [1, 1, 1, 17, 0, 0, 0, 15, 1, 0, 0, 15, 0, 0, 0, 0, 0];
-    run(&local_17, 257, 3);
+    run(rt, &local_17, 257, 3)?;
     // frames: W is 10; the last is pushed
     let frames: [u8; 17] = [1, 1, 1, 1, 8, 0, 0, 0, 0, 1, 0, 0, 0, 0, 7, 0, 0];
-    run(&frames, 10, 2);
+    run(rt, &frames, 10, 2)?;
     let frames_9: [u8; 17] = [1, 1, 1, 1, 9, 0, 0, 0, 0, 1, 0, 0, 0, 0, 7, 0, 0];
-    run(&frames_9, 10, 2);
+    run(rt, &frames_9, 10, 2)?;
     // all four: W is 2,360,320
     let all: [u8; 15] = [1, 4, 16, 16, 8, 0, 0, 0, 0, 0, 0, 0, 0, 0, 0];
-    run(&all, MOST, 65536);
+    run(rt, &all, MOST, 65536)
 }
 
 // ---- as much as the bench has
@@ -300,23 +309,23 @@ fn full() -> Full {
 }
 
 // In all that the bench has, with one fact less of budget, and with one byte less of memory.
-fn bench() {
+fn bench(rt: &impl Print) -> io::Result<()> {
     let table = full();
-    let mut mem = io::large_buffer();
-    check_in(&table, &mut mem, BENCH, BENCH);
-    check_in(&table, &mut mem, BENCH, BENCH - 1);
-    check_in(&table, &mut mem, BENCH - 1, BENCH);
+    let mut mem = [0u8; BENCH];
+    check_in(rt, &table, &mut mem, BENCH, BENCH)?;
+    check_in(rt, &table, &mut mem, BENCH, BENCH - 1)?;
+    check_in(rt, &table, &mut mem, BENCH - 1, BENCH)
 }
 
-fn main() {
-    recursion();
-    smallest();
-    training();
-    mutex();
-    leaving_the_failed_store();
-    returning();
-    left_alone();
-    kinds();
-    limits();
-    bench();
+fn main(rt: HostRuntime) -> io::Result<()> {
+    recursion(&rt)?;
+    smallest(&rt)?;
+    training(&rt)?;
+    mutex(&rt)?;
+    leaving_the_failed_store(&rt)?;
+    returning(&rt)?;
+    left_alone(&rt)?;
+    kinds(&rt)?;
+    limits(&rt)?;
+    bench(&rt)
 }

@@ -2,46 +2,47 @@
 // file gets a line that says what comes back.
 #![tactic(auto)]
 
-ghost use Rattle.std.specs.Prelude.{◌+◌, ◌≤◌, length};
+ghost use Rattle.std.specs.Prelude.{◌+◌, ◌≤◌, length, IfOk};
 
 use cells::columns::Sizes;
 use files::header::{Header, w_of};
 use files::table::{
     Counts, ERROR_BYTES, Outcome, POP_BYTES, PUSH_BYTES, STEP_BYTES, TableRead, read_table,
 };
-use libc::STDOUT_FILENO;
 use numbers::refusals::{Refusal, tell};
 use numbers::writing::put_number;
+use std::io;
+use std::io::Read;
 
 // ---- standard output
 
-fn text(bytes: &[u8]) {
-    io::write_all(STDOUT_FILENO, bytes);
+fn text(rt: &impl Print, bytes: &[u8]) -> io::Result<()> {
+    rt.write_all(bytes)
 }
 
 // A word and a number.
-fn number(word: &[u8], n: usize) {
-    text(word);
-    io::print_decimal(STDOUT_FILENO, n as u64);
+fn number(rt: &impl Print, word: &str, n: usize) -> io::Result<()> {
+    print!(rt; "{word}{n}")
 }
 
 // A number, with a blank before it.
-fn spaced(n: usize) {
-    number(b" ", n);
+fn spaced(rt: &impl Print, n: usize) -> io::Result<()> {
+    number(rt, " ", n)
 }
 
 // A cell, with a blank before it.
-fn cell(value: u8) {
-    spaced(value as usize);
+fn cell(rt: &impl Print, value: u8) -> io::Result<()> {
+    spaced(rt, value as usize)
 }
 
 // Cells, each with a blank before it.
-fn cells(values: &[u8]) {
+fn cells(rt: &impl Print, values: &[u8]) -> io::Result<()> {
     let mut i = 0;
     while i < values.len() {
-        cell(values[i]);
+        cell(rt, values[i])?;
         i += 1;
     }
+    Ok(())
 }
 
 // ---- bytes in a room
@@ -110,34 +111,35 @@ fn read(file: &[u8], memory: &mut Room) -> TableRead {
 }
 
 // The five cells of a row, after a bar.
-fn write_row(memory: &[u8], at: usize)
+fn write_row(rt: &impl Print, memory: &[u8], at: usize) -> io::Result<()>
     requires { at + 5 ≤ length memory.now }
 {
     let end = at + 5;
-    text(b" |");
-    cells(&memory[at..end]);
+    text(rt, b" |")?;
+    cells(rt, &memory[at..end])
 }
 
 // A list's count and the first rows of its memory, at most three.
-fn write_list(name: &[u8], count: usize, memory: &Room, at: usize)
+fn write_list(rt: &impl Print, name: &str, count: usize, memory: &Room, at: usize) -> io::Result<()>
     requires { at + 15 ≤ 8192 }
 {
-    number(name, count);
+    number(rt, name, count)?;
     let mut i = 0;
     while i < 3 {
         if i < count {
-            write_row(memory, at + 5 * i);
+            write_row(rt, memory, at + 5 * i)?;
         }
         i += 1;
     }
+    Ok(())
 }
 
 // The four lists in file order.
-fn write_lists(counts: Counts, memory: &Room) {
-    write_list(b", steps ", counts.steps, memory, STEPS);
-    write_list(b", pushes ", counts.pushes, memory, PUSHES);
-    write_list(b", pops ", counts.pops, memory, POPS);
-    write_list(b", errors ", counts.errors, memory, ERRORS);
+fn write_lists(rt: &impl Print, counts: Counts, memory: &Room) -> io::Result<()> {
+    write_list(rt, ", steps ", counts.steps, memory, STEPS)?;
+    write_list(rt, ", pushes ", counts.pushes, memory, PUSHES)?;
+    write_list(rt, ", pops ", counts.pops, memory, POPS)?;
+    write_list(rt, ", errors ", counts.errors, memory, ERRORS)
 }
 
 // How many bytes of the memories are `byte`.
@@ -170,39 +172,44 @@ fn checksum(memory: &Room) -> usize {
 }
 
 // The four sizes in file order.
-fn write_sizes(sizes: Sizes) {
-    cell(sizes.threads);
-    cell(sizes.shared);
-    cell(sizes.locals);
-    cell(sizes.frames);
+fn write_sizes(rt: &impl Print, sizes: Sizes) -> io::Result<()> {
+    cell(rt, sizes.threads)?;
+    cell(rt, sizes.shared)?;
+    cell(rt, sizes.locals)?;
+    cell(rt, sizes.frames)
 }
 
 // The numbers of the header, and W.
-fn write_header(header: Header) {
+fn write_header(rt: &impl Print, header: Header) -> io::Result<()> {
     let sizes = header.sizes;
     let firsts = header.firsts;
-    write_sizes(sizes);
-    cell(header.failed);
-    cell(header.start);
-    cells(&firsts);
-    number(b", W ", w_of(sizes));
+    write_sizes(rt, sizes)?;
+    cell(rt, header.failed)?;
+    cell(rt, header.start)?;
+    cells(rt, &firsts)?;
+    number(rt, ", W ", w_of(sizes))
 }
 
 // What is said of a table that is accepted.
-fn write_accepted(header: Header, counts: Counts, memory: &Room) {
-    text(b": accepted");
-    write_header(header);
-    write_lists(counts, memory);
-    number(b", kept ", count(memory, FILL));
-    number(b", checksum ", checksum(memory));
+fn write_accepted(
+    rt: &impl Print,
+    header: Header,
+    counts: Counts,
+    memory: &Room,
+) -> io::Result<()> {
+    text(rt, b": accepted")?;
+    write_header(rt, header)?;
+    write_lists(rt, counts, memory)?;
+    number(rt, ", kept ", count(memory, FILL))?;
+    number(rt, ", checksum ", checksum(memory))
 }
 
 // What is said of a refusal.
-fn write_refused(refusal: Refusal, memory: &Room) {
+fn write_refused(rt: &impl Print, refusal: Refusal, memory: &Room) -> io::Result<()> {
     let told = tell(refusal);
-    number(b": refused ", told.number as usize);
-    spaced(told.value);
-    number(b", kept ", count(memory, FILL));
+    number(rt, ": refused ", told.number as usize)?;
+    spaced(rt, told.value)?;
+    number(rt, ", kept ", count(memory, FILL))
 }
 
 // Runs the table reader on a file and ends a line with what comes back, as
@@ -213,27 +220,28 @@ fn write_refused(refusal: Refusal, memory: &Room) {
 // The numbers after `accepted` are n, G, L, F, failed, the initial shared store and four initial local stores. Each list has its count
 // and the first rows of its memory, at most three. The four memories have 8,000 bytes, which are all 170 before: `kept` counts those
 // that still are. No cell is 170, so after a refusal all 8,000 are kept.
-fn show_whole(file: &[u8]) {
+fn show_whole(rt: &impl Print, file: &[u8]) -> io::Result<()> {
     let mut memory = [FILL; 8192];
     let came = read(file, &mut memory);
     let outcome = came.outcome;
     match outcome {
-        Outcome::Accepted => write_accepted(came.header, came.counts, &memory),
-        Outcome::Refused { refusal } => write_refused(refusal, &memory),
+        Outcome::Accepted => write_accepted(rt, came.header, came.counts, &memory)?,
+        Outcome::Refused { refusal } => write_refused(rt, refusal, &memory)?,
     }
-    text(b"\n");
+    text(rt, b"\n")
 }
 
 // The same for the first bytes of a file.
-fn show_first(file: &[u8], n: usize) {
+fn show_first(rt: &impl Print, file: &[u8], n: usize) -> io::Result<()> {
     if n <= file.len() {
-        show_whole(&file[0..n]);
+        show_whole(rt, &file[0..n])?;
     }
+    Ok(())
 }
 
 // The same for the first bytes of a room.
-fn show(file: &Room, n: usize) {
-    show_first(file, n);
+fn show(rt: &impl Print, file: &Room, n: usize) -> io::Result<()> {
+    show_first(rt, file, n)
 }
 
 // ---- files that are written out
@@ -293,26 +301,27 @@ fn find(bytes: &[u8], from: usize, byte: u8) -> usize
 }
 
 // A heading is written as it stands, a label with what comes back for its file.
-fn run_line(line: &[u8]) {
+fn run_line(rt: &impl Print, line: &[u8]) -> io::Result<()> {
     let colon = find(line, 0, b':');
-    text(&line[0..colon]);
+    text(rt, &line[0..colon])?;
     if colon == line.len() {
-        text(b"\n");
-        return;
+        text(rt, b"\n")?;
+        return Ok(());
     }
     let mut file = [0; 8192];
     let n = put(&mut file, &line[colon..]);
-    show(&file, n);
+    show(rt, &file, n)
 }
 
 // The lines of the input.
-fn run_written(input: &[u8]) {
+fn run_written(rt: &impl Print, input: &[u8]) -> io::Result<()> {
     let mut at = 0;
     while at < input.len() {
         let end = find(input, at, b'\n');
-        run_line(&input[at..end]);
+        run_line(rt, &input[at..end])?;
         at = end + 1;
     }
+    Ok(())
 }
 
 // ---- large files
@@ -326,49 +335,49 @@ fn put_training(file: &mut Room) {
 }
 
 // What comes back for the first n bytes of the training table.
-fn training_first(n: usize) {
+fn training_first(rt: &impl Print, n: usize) -> io::Result<()> {
     let mut file = [0; 8192];
     put_training(&mut file);
-    number(b"first bytes ", n);
-    show(&file, n);
+    number(rt, "first bytes ", n)?;
+    show(rt, &file, n)
 }
 
 // What comes back for the training table with one byte changed.
-fn training_with(at: usize, byte: u8) {
+fn training_with(rt: &impl Print, at: usize, byte: u8) -> io::Result<()> {
     let mut file = [0; 8192];
     put_training(&mut file);
     if at < 576 {
         file[at] = byte;
     }
-    number(b"byte ", at);
-    number(b" set to ", byte as usize);
-    show(&file, 576);
+    number(rt, "byte ", at)?;
+    number(rt, " set to ", byte as usize)?;
+    show(rt, &file, 576)
 }
 
 // Changes of the header, of the counts, and of a row's first, a middle and the last cell.
-fn run_training() {
-    text(b"\nThe training table\n");
-    training_first(576);
-    training_first(575);
+fn run_training(rt: &impl Print) -> io::Result<()> {
+    text(rt, b"\nThe training table\n")?;
+    training_first(rt, 576)?;
+    training_first(rt, 575)?;
     // the version, n, G, L
-    training_with(0, 2);
-    training_with(1, 4);
-    training_with(2, 7);
-    training_with(3, 6);
+    training_with(rt, 0, 2)?;
+    training_with(rt, 1, 4)?;
+    training_with(rt, 2, 7)?;
+    training_with(rt, 3, 6)?;
     // the count of step rows, the first row's t, the second row's l, the last row's l'
-    training_with(10, 89);
-    training_with(10, 91);
-    training_with(11, 3);
-    training_with(18, 0);
-    training_with(460, 6);
-    training_with(460, 7);
+    training_with(rt, 10, 89)?;
+    training_with(rt, 10, 91)?;
+    training_with(rt, 11, 3)?;
+    training_with(rt, 18, 0)?;
+    training_with(rt, 460, 6)?;
+    training_with(rt, 460, 7)?;
     // the counts of push rows, pop rows and error rows, the last cell
-    training_with(461, 1);
-    training_with(462, 1);
-    training_with(463, 27);
-    training_with(463, 29);
-    training_with(575, 7);
-    training_with(575, 8);
+    training_with(rt, 461, 1)?;
+    training_with(rt, 462, 1)?;
+    training_with(rt, 463, 27)?;
+    training_with(rt, 463, 29)?;
+    training_with(rt, 575, 7)?;
+    training_with(rt, 575, 8)
 }
 
 // Numbers from `at` on. Gives the place past them.
@@ -395,7 +404,7 @@ fn put_list(file: &mut Room, at: usize, count: u32, pace: u32, fourth: u32, fift
     let mut i = 0;
     while i < count {
         p = put_row(file, p, k, fourth, fifth);
-        k = std::num::wrapping_add_u32(k, pace);
+        k = k.wrapping_add(pace);
         i += 1;
     }
     p
@@ -408,35 +417,52 @@ fn put_header(file: &mut Room) -> usize {
 }
 
 // A table of the largest sizes with so many rows in each list.
-fn limits(steps: u32, pushes: u32, pops: u32, errors: u32) {
+fn limits(rt: &impl Print, steps: u32, pushes: u32, pops: u32, errors: u32) -> io::Result<()> {
     let mut file = [0; 8192];
     let a = put_header(&mut file);
     let b = put_list(&mut file, a, steps, 1, 15, 15);
     let c = put_list(&mut file, b, pushes, 4, 15, 7);
     let d = put_list(&mut file, c, pops, 4, 7, 15);
     let n = put_list(&mut file, d, errors, 16, 16, 16);
-    text(b"rows");
-    spaced(steps as usize);
-    spaced(pushes as usize);
-    spaced(pops as usize);
-    spaced(errors as usize);
-    show(&file, n);
+    text(rt, b"rows")?;
+    spaced(rt, steps as usize)?;
+    spaced(rt, pushes as usize)?;
+    spaced(rt, pops as usize)?;
+    spaced(rt, errors as usize)?;
+    show(rt, &file, n)
 }
 
-fn run_limits() {
-    text(b"\nTables at the limits\n");
-    limits(1024, 256, 256, 64);
-    limits(1025, 256, 256, 64);
-    limits(1024, 257, 256, 64);
-    limits(1024, 256, 257, 64);
-    limits(1024, 256, 256, 65);
-    limits(128, 127, 128, 64);
+fn run_limits(rt: &impl Print) -> io::Result<()> {
+    text(rt, b"\nTables at the limits\n")?;
+    limits(rt, 1024, 256, 256, 64)?;
+    limits(rt, 1025, 256, 256, 64)?;
+    limits(rt, 1024, 257, 256, 64)?;
+    limits(rt, 1024, 256, 257, 64)?;
+    limits(rt, 1024, 256, 256, 65)?;
+    limits(rt, 128, 127, 128, 64)
 }
 
-fn main() {
-    let mut input = io::large_buffer();
-    let n = io::read_full(libc::STDIN_FILENO, &mut input);
-    run_written(&input[..n]);
-    run_training();
-    run_limits();
+// ---- standard input
+
+// Reads until the buffer is full or the input ends, and gives how many bytes were read.
+fn read_full(input: &mut impl Read, buf: &mut [u8]) -> io::Result<usize>
+    ensures { IfOk result (λ n. n ≤ length buf.new) }
+{
+    let mut done = 0;
+    while done < buf.len() {
+        let n = input.read(&mut buf[done..])?;
+        if n == 0 {
+            break;
+        }
+        done += n;
+    }
+    Ok(done)
+}
+
+fn main(rt: HostRuntime) -> io::Result<()> {
+    let mut input = [0u8; 65536];
+    let n = read_full(&mut rt.reader(), &mut input)?;
+    run_written(&rt, &input[..n])?;
+    run_training(&rt)?;
+    run_limits(&rt)
 }
