@@ -1,5 +1,6 @@
 // Names of files.
-ghost use Rattle.std.specs.Prelude.{◌≡◌, ◌↔◌, IfOk, IsOk, IsUtf8};
+ghost use Rattle.std.specs.Prelude.{◌≡◌, ◌↔◌, IfErr, IfOk, IsOk, IsUtf8};
+ghost use Rattle.std.specs.IoError.{raw_os_error};
 ghost use Rattle.inputs.specs.Names.{SameName};
 
 use std::io;
@@ -24,10 +25,11 @@ pub fn same_name(a: &[u8], b: &[u8]) -> bool
 // The system's number of the error that bytes are no text.
 const NO_TEXT: i32 = 84;
 
-// A name as std takes it to open its file: as text. A name that is none is refused, as the system refuses bytes that are no text.
+// A name as std takes it to open a file: as text. Bytes that are none are refused as the system refuses them where it asks for text.
 pub fn path_of(name: &[u8]) -> io::Result<&str>
-    ensures text { IfOk result (λ path. path.now ≡ name.now) }
-    ensures refused { IsOk result ↔ IsUtf8 name.now }
+    ensures text { IsOk result ↔ IsUtf8 name.now }
+    ensures same { IfOk result (λ path. path.now ≡ name.now) }
+    ensures refused { IfErr result (λ why. raw_os_error why ≡ Some NO_TEXT) }
 {
     match str::from_utf8(name) {
         Ok(path) => Ok(path),
