@@ -54,8 +54,8 @@ fn tell(rt: &(impl Print + Say), table: &[u8], answer: WriteAnswer) {
     }
 }
 
-// Waits until the system has what was written to a file, since what it says of that only as the file is closed is lost. A file that has nothing to
-// wait for, as a pipe, answers that this is not to be asked of it.
+// Waits until the system has taken in what was written to a file. What is wrong with that it may else say only as the file is closed, and a file that is
+// dropped does not pass it on. Of a file that is not waited for, as a pipe, it says `InvalidInput`.
 fn settle(file: &impl OpenFile) -> io::Result<()> {
     match file.sync_all() {
         Err(why) if why.kind() != ErrorKind::InvalidInput => Err(why),
