@@ -1,0 +1,8 @@
+-- `fact_text::facts::g_fact` meets its contract: the digits of i, taken off from the right as model's at_g does. No size is 0.
+use mathlib.Core.Path.{refl}
+use Rattle.model.specs.Positions.{at_g}
+use Rattle.fact_text.proofs.facts.g_fact.Goals as goal
+
+pub returns : goal.returns
+unfolding at_g
+returns c = refl
