@@ -1,4 +1,4 @@
-// The exported functions. A slice passes as a pointer and then a length, and `told` as a pointer to its eleven numbers.
+// The three calls as the library has them. `truppidane_c` exports them under the same names.
 ghost use Rattle.truppidane.specs.Calls.{CheckTold, WriteTold, ClaimTold};
 
 use crate::told::{NUMBERS, check_numbers, claim_numbers, write_numbers};
@@ -7,8 +7,7 @@ use claim_check_call::check::check_claim;
 use claim_write_call::write::write_claim;
 
 // Checks a table, in working memory and within a budget of facts. Tells the answer and gives its number.
-#[unsafe(no_mangle)]
-pub extern "C" fn truppidane_check(
+pub fn truppidane_check(
     table: &[u8],
     mem: &mut [u8],
     budget: usize,
@@ -22,8 +21,7 @@ pub extern "C" fn truppidane_check(
 }
 
 // Checks a table and writes the claim of exactly its facts at the start of a space. Tells the answer and gives its number.
-#[unsafe(no_mangle)]
-pub extern "C" fn truppidane_write_claim(
+pub fn truppidane_write_claim(
     table: &[u8],
     mem: &mut [u8],
     budget: usize,
@@ -39,8 +37,7 @@ pub extern "C" fn truppidane_write_claim(
 }
 
 // Checks a claim against a table, in working memory. Tells the answer and gives its number.
-#[unsafe(no_mangle)]
-pub extern "C" fn truppidane_check_claim(
+pub fn truppidane_check_claim(
     table: &[u8],
     claim: &[u8],
     mem: &mut [u8],

@@ -1,8 +1,10 @@
-// The library that others link: document 01's three calls, for programs in C and in languages that call as C does. `include/truppidane.h` declares
-// the exported functions.
+// The library of document 01's three calls with their answers as numbers. `truppidane_c` exports them for programs in C and in languages that call as C
+// does, under the same names.
 //   told   an answer as eleven numbers
-//   calls  the exported functions
+//   calls  the three calls
 #![tactic(auto)]
 
 pub mod calls;
 mod told;
+
+pub use told::NUMBERS;
