@@ -54,7 +54,7 @@ returns-clause-found c =
     λ T st.
     let e = stored_plan st c.plan_by-s.ensures.0 in
     let looked = c.lacking_start-thread.ensures T st.sound e (stored_begins st) in
-    let starts = starts_marked st.sound e looked (omega (arith, c.if-thread-s.false)) in
-    let closed = closed_marked st.sound e starts (c.missing-position.ensures.found T (stored_rows st e)) (omega (arith, c.if-position-s.false)) in
+    let marked = starts_marked st.sound e looked (omega (arith, c.if-thread-s.false)) in
+    let closed = closed_marked st.sound e marked (c.missing-position.ensures.found T (stored_rows st e)) (omega (arith, c.if-position-s.false)) in
     subst (λ k. ClosedWithStarts T (Marked T k) → Finds T (Marked T k) (finding_of c.find_error.result)) c.missing-position.ensures.kept
     (c.find_error.ensures T (stored_errors st e)) closed
