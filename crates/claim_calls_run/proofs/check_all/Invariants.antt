@@ -1,4 +1,4 @@
-use Rattle.std.proofs.Common.{length, ◌-◌, ◌≤◌}
+use Rattle.std.proofs.Common.{length, ◌-◌}
 use Rattle.claim_calls_run.proofs.check_all.Given as goal
 
 abbrev pub decreases-loop-at : goal.decreases-loop-at
