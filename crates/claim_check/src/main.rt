@@ -21,7 +21,7 @@ fn memory() -> [u8; MOST_FACTS]
     [0; MOST_FACTS]
 }
 
-// The room for a claim. Of a file that is longer, what comes back of so many bytes comes back of the whole (`claims:Cuts.claim-check-cut`).
+// The room for a claim. Of a file that is longer, what comes back of so many bytes comes back of the whole (`claims:Cuts.claim_check_cut`).
 const CLAIM_ROOM: usize = MOST_FACTS + 9;
 
 // Room for the claim.
@@ -56,7 +56,7 @@ fn main(rt: HostRuntime) {
         rt.say(b"usage: claim_check TABLE CLAIM\n");
         return;
     }
-    // what comes back of so many bytes comes back of the whole file (`claims:Cuts.claim-check-cut`)
+    // what comes back of so many bytes comes back of the whole file (`claims:Cuts.claim_check_cut`)
     let mut table = [0u8; 65536];
     match read_table(&rt, &mut table) {
         Input::Bytes { count } => check_against(&rt, &table[..count]),

@@ -27,7 +27,7 @@ fn memory() -> [u8; MOST_FACTS]
     [0; MOST_FACTS]
 }
 
-// No claim is longer (`claim_reader:ClaimLength.claim-length`). The claim of all positions is as long as this.
+// No claim is longer (`claim_reader:ClaimLength.claim_length`). The claim of all positions is as long as this.
 const CLAIM_MOST: usize = MOST_FACTS + 5;
 
 // Space for any claim.
@@ -126,7 +126,7 @@ fn main(rt: HostRuntime) {
         rt.say(b"usage: claim_write TABLE CLAIM\n");
         return;
     }
-    // what comes back of so many bytes comes back of the whole file (`claims:Cuts.claim-writing-cut`)
+    // what comes back of so many bytes comes back of the whole file (`claims:Cuts.claim_writing_cut`)
     let mut table = [0u8; 65536];
     match read_table(&rt, &mut table) {
         Input::Bytes { count } => run(&rt, &table[..count]),

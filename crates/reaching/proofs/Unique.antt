@@ -10,10 +10,10 @@ use Rattle.positions.specs.declared.plan.Plan.{Plan}
 use Rattle.store.proofs.Unique.{is_unique}
 use Rattle.reaching.specs.Reaching.{Least, smallest, nothing, Last, here, nowhere, Picked, already, forced}
 use Rattle.reaching.specs.Reaching.{row_cell, Reached, Aimed, no_failed, picked, unfit, fit}
-use Rattle.reaching.proofs.cells.aim.Reads as aim
-use Rattle.reaching.proofs.cells.aim.Kinds as aim-kinds
-use Rattle.reaching.proofs.cells.cell_of.Reads as cell-of
-use Rattle.reaching.proofs.cells.cell_of.Kinds as cell-of-kinds
+use Rattle.reaching.proofs.row_cells.aim.Reads as aim
+use Rattle.reaching.proofs.row_cells.aim.Kinds as aim-kinds
+use Rattle.reaching.proofs.row_cells.cell_of.Reads as cell-of
+use Rattle.reaching.proofs.row_cells.cell_of.Kinds as cell-of-kinds
 use Rattle.reaching.proofs.reach.reached.Reads as reached
 use Rattle.reaching.proofs.reach.reached.Kinds as reached-kinds
 use Rattle.reaching.proofs.reach.cell_fits.Reads as cell_fits

@@ -2,7 +2,7 @@
 use mathlib.Core.Path.{sym, ◌∙◌}
 use native.Mathlib.Omega.{arith}
 use Rattle.reaching.proofs.CellLaws.{own_cell, other_cell, file_cell}
-use Rattle.reaching.proofs.cells.cell_of.Goals as goal
+use Rattle.reaching.proofs.row_cells.cell_of.Goals as goal
 
 pub returns-then-t-u : goal.returns-then-t-u
 returns-then-t-u c = let a = c.args in sym (own_cell a.failed a.rows.now c.if-row-eq0.true c.if-t-u.true)

@@ -5,7 +5,7 @@ use native.Mathlib.Omega.{arith}
 use Rattle.store.proofs.MarkLaws.{is_true, is_false}
 use Rattle.reaching.specs.Reaching.{row_cell, picked, unfit, fit}
 use Rattle.reaching.proofs.CellLaws.{cell_eq, shared_cell}
-use Rattle.reaching.proofs.cells.aim.Goals as goal
+use Rattle.reaching.proofs.row_cells.aim.Goals as goal
 
 pub returns-then-row-eq0 : goal.returns-then-row-eq0
 returns-then-row-eq0 c =

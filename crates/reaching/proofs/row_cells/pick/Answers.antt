@@ -5,8 +5,8 @@ use native.Mathlib.Omega.{arith}
 use Rattle.reaching.specs.Reaching.{already, forced}
 use Rattle.reaching.proofs.Numbers.{none_more, last_not}
 use Rattle.reaching.proofs.Reaching.{any_is_first, any_not_first}
-use Rattle.reaching.proofs.cells.pick.Goals as goal
-use Rattle.reaching.proofs.cells.pick.Goals.{then-u-t+else-l-k, else-u-t}
+use Rattle.reaching.proofs.row_cells.pick.Goals as goal
+use Rattle.reaching.proofs.row_cells.pick.Goals.{then-u-t+else-l-k, else-u-t}
 
 pub returns-then-l-k : goal.returns-then-l-k
 returns-then-l-k c =

@@ -3,7 +3,7 @@
 use Prim.Native.Nat.{ℕ, ◌-◌, ◌≤◌, ◌<◌}
 use Rattle.model.specs.Claims.{First}
 use Rattle.reaching.specs.Reaching.{Reached, Last}
-use Rattle.reaching.proofs.cells.pick.Given as goal
+use Rattle.reaching.proofs.row_cells.pick.Given as goal
 
 abbrev pub invariant-loop-t : goal.invariant-loop-t
 invariant-loop-t l =
