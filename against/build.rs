@@ -16,7 +16,7 @@ fn main() {
     } else {
         println!(
             "cargo::error=the proved library is not built: \
-             first run `rt staticlib truppidane` at the top of the repository"
+             first run `tools/build.sh` at the top of the repository"
         );
     }
 }
