@@ -6,8 +6,8 @@ ghost use Rattle.store.specs.Marking.{room};
 ghost use Rattle.verdict.specs.ErrorRows.{ErrorsOf, Judged};
 
 use positions::plan::Plan;
-use reaching::row_cells::{aim, cell_of};
 use reaching::reach::least;
+use reaching::row_cells::{aim, cell_of};
 
 // The verdict. The witness of a possible error is its row, its shared store g, and the local stores of threads 0 to 3, with 0 for a thread
 // that is not there.
