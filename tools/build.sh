@@ -3,9 +3,9 @@
 set -e
 cd "$(dirname "$0")/.."
 mkdir -p target/bin target/staticlib
-rt lib truppidane_c
+(cd crates/truppidane_c && rt lib)
 cp crates/truppidane_c/out/libtruppidane_c.a target/staticlib/libtruppidane.a
 for name in listing claim_write claim_check; do
-    rt run "$name" </dev/null
+    (cd "crates/$name" && rt run </dev/null)
     cp "crates/$name/out/$name" target/bin/
 done
