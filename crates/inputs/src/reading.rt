@@ -9,7 +9,7 @@ use std::rt::{Env, Files};
 use std::{fs, io};
 
 // What comes of reading a file.
-#[derive(Drop)]
+#[derive(Clone, Copy)]
 pub enum Input {
     // Its bytes stand at the start of the buffer: all of them, or as many as there is room for.
     Bytes { count: usize },

@@ -53,7 +53,7 @@ fn put(line: &[u8], page: &mut [u8], at: usize) -> usize
 }
 
 // A page after a line was put on it: how many bytes are used, and whether what stood there before is printed.
-#[derive(Drop)]
+#[derive(Clone, Copy)]
 struct Page {
     used: usize,
     printed: bool,
