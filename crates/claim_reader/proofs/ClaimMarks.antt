@@ -13,7 +13,7 @@ use Rattle.claim_reader.specs.ClaimFile.{AscendingFrom, AscendingBelow, count_at
 use Rattle.claim_reader.specs.ClaimAnswers.{IsClaim, positions_of}
 use Rattle.claim_reader.specs.Marks.{Marks}
 use Rattle.claim_reader.specs.Stages.{marked_all}
-use Rattle.claim_reader.proofs.PositionLaws.{positions_ascending}
+use Rattle.claim_reader.proofs.AscendingPositions.{positions_ascending}
 use Rattle.claim_reader.proofs.ClaimLaws.{claim_listed}
 
 -- ---- a memory with many marks

@@ -1,5 +1,6 @@
 -- The laws of claim files, from the bottom up:
 --   PositionLaws      the count and the positions of a claim that is read
+--   AscendingPositions  positions that were read are strictly ascending
 --   ReadingLoops      the loops over its positions
 --   ClaimLaws         a claim that is read, and what the code's answer tells of it
 --   ClaimMarks        a memory in which the positions of a claim are marked
@@ -13,6 +14,7 @@
 --   Computed          the definition of a claim's file, ready to compute
 --   Unique            two results that a contract allows are equal
 pub mod PositionLaws
+pub mod AscendingPositions
 pub mod ReadingLoops
 pub mod ClaimLaws
 pub mod ClaimMarks

@@ -4,7 +4,7 @@
 --     position_got                       what is known of a position that was read
 --     positions_none, _more, _stop       what `positions_at` gives, one position at a time
 --     positions_first                    where positions were read, the first was, and the others from the place past it
---     positions_count, _ascending        they are as many as the count says, strictly ascending, and below w
+--     positions_count                    they are as many as the count says
 use mathlib.Core.Path.{◌≡◌, refl, ap, ◌∙◌}
 use mathlib.Core.List.{List, [], ◌∷◌}
 use Prim.Native.Nat.{ℕ, zero, suc, ◌+◌, ◌-◌, ◌≤◌, ◌<◌}
@@ -15,7 +15,7 @@ use Rattle.numbers.specs.Reading.{Out, got, bad, field_at, version_at}
 use Rattle.numbers.proofs.ReadingLaws.{never, parts}
 use Rattle.numbers.proofs.FieldLaws.{field_got}
 use Rattle.cells.specs.Rows.{push}
-use Rattle.claim_reader.specs.ClaimFile.{count_at, position_at, positions_at, AscendingFrom}
+use Rattle.claim_reader.specs.ClaimFile.{count_at, position_at, positions_at}
 
 -- ---- the count
 
@@ -98,7 +98,7 @@ module _ (w k least last : ℕ) (s : List ℕ) (at : ℕ) where
         others = pushed q.first (positions_at w k 1 q.first s q.place) ps n q.rest;
       }
 
-none_read : {ps : List ℕ} {at n : ℕ} → got [] at ≡ got ps n → ps ≡ []
+pub none_read : {ps : List ℕ} {at n : ℕ} → got [] at ≡ got ps n → ps ≡ []
 none_read e = cc
 
 module _ (w : ℕ) (s : List ℕ) where
@@ -108,12 +108,3 @@ module _ (w : ℕ) (s : List ℕ) where
   positions_count (suc k) least last at ps n e =
       let f = positions_first w k least last s at ps n e in
       rw f.others.whole (ap suc (positions_count k 1 f.p f.next f.others.rest n f.others.was))
-
-  pub positions_ascending : (k least last at : ℕ) (ps : List ℕ) (n : ℕ) → positions_at w k least last s at ≡ got ps n
-      → AscendingFrom w (last + least) ps
-  unfolding positions_at
-  positions_ascending zero least last at ps n e = rw (none_read e) tt
-  positions_ascending (suc k) least last at ps n e =
-      let f = positions_first w k least last s at ps n e in
-      let h = position_got w least last s at f.p f.next f.was in
-      rw f.others.whole (h.low, h.below, positions_ascending k 1 f.p f.next f.others.rest n f.others.was)

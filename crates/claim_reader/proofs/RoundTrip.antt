@@ -32,6 +32,7 @@ use Rattle.claim_reader.specs.ClaimFile.{
   AscendingBelow,
 }
 use Rattle.claim_reader.specs.Stages.{position_bytes}
+use Rattle.claim_reader.proofs.AscendingPositions.{positions_ascending}
 use Rattle.claim_reader.proofs.PositionLaws.{
   count_after,
   position_far,
@@ -40,7 +41,6 @@ use Rattle.claim_reader.proofs.PositionLaws.{
   positions_more,
   positions_first,
   positions_count,
-  positions_ascending,
 }
 use Rattle.claim_reader.proofs.ClaimLaws.{claim_got, claim_counted}
 use Rattle.claim_reader.proofs.ClaimBytes.{bytes_none, bytes_more, bytes_claim}
