@@ -18,9 +18,11 @@ use lib.Seq.{length-take-le, take_all, get_or-take}
 use lib.Dec.{ltb, eqb}
 use Rattle.numbers.specs.declared.refusals.Refusal.{Refusal}
 use Rattle.numbers.specs.declared.refusals.Refusal.TheVariants.{Version, Outside}
-use Rattle.numbers.specs.declared.reading.Grouped.{Grouped}
-use Rattle.numbers.specs.declared.reading.Grouped.TheVariants.{Value, Long}
-use Rattle.numbers.specs.Reading.{Out, got, bad, then, pick, onto, groups_at, out_of, number_at, field_at, version_at}
+use Rattle.std.specs.Prelude.{Result, Ok, Err}
+use Rattle.numbers.specs.declared.reading.Flaw.{Flaw}
+use Rattle.numbers.specs.declared.reading.Part.{Part}
+use Rattle.numbers.specs.declared.reading.Flaw.TheVariants.{Long}
+use Rattle.numbers.specs.Reading.{Out, got, bad, part, then, pick, onto, groups_at, out_of, number_at, field_at, version_at}
 use Rattle.numbers.proofs.ReadingLaws.{never, parts, pick_either}
 use Rattle.numbers.proofs.NumberLaws.{number_past}
 
@@ -78,11 +80,11 @@ module _ {A : Type 0} where
 -- ---- a number
 
 -- the bytes do not end before the number does
-data Whole : Grouped → Type 0 where
-  whole_value : {v n : ℕ} → Whole (Value v n)
-  whole_long : Whole Long
+data Whole : Result (Part ℕ) Flaw → Type 0 where
+  whole_value : {v n : ℕ} → Whole (Ok (part v n))
+  whole_long : Whole (Err Long)
 
-whole_onto : (low : ℕ) {r : Grouped} → Whole r → Whole (onto low r)
+whole_onto : (low : ℕ) {r : Result (Part ℕ) Flaw} → Whole r → Whole (onto low r)
 whole_onto low whole_value = whole_value
 whole_onto low whole_long = whole_long
 
@@ -94,7 +96,7 @@ groups_whole (suc left) least s at h =
     (pick_either Whole (ltb (get_or s at 0) 128) (pick_either Whole (ltb (get_or s at 0) least) whole_long whole_value)
     (whole_onto (get_or s at 0 % 128) (groups_whole left 1 s (at + 1) (omega arith))))
 
-whole_same : {r : Grouped} (a b at : ℕ) → Whole r → out_of a at r ≡ out_of b at r
+whole_same : {r : Result (Part ℕ) Flaw} (a b at : ℕ) → Whole r → out_of a at r ≡ out_of b at r
 whole_same a b at whole_value = refl
 whole_same a b at whole_long = refl
 

@@ -5,17 +5,18 @@ use mathlib.Core.Path.{◌≡◌, sym, ◌∙◌}
 use mathlib.Core.List.{List}
 use Prim.Native.Nat.{ℕ}
 use lib.ListN.{length}
+use Rattle.std.specs.Prelude.{Result}
 use contract.Lifetimes.{Lfts}
 use denote.Triple.Clauses.{AtExit}
 use borrow.Fn.Kinds.{ParamKind, ResultKind, Out, Dens, res_t, ended_of}
 use Rattle.numbers.specs.declared.refusals.Refusal.{Refusal}
 use Rattle.numbers.specs.declared.refusals.Told.{Told}
-use Rattle.numbers.specs.declared.reading.Read.{Read}
+use Rattle.numbers.specs.declared.reading.Part.{Part}
 use Rattle.numbers.specs.Refusals.{told_of}
-use Rattle.numbers.specs.Reading.{number_at, read_of}
+use Rattle.numbers.specs.Reading.{number_at, part_of}
 use Rattle.numbers.specs.Writing.{bytes_of, put_next, put_into}
-use Rattle.numbers.proofs.refusals.tell.Reads as tell
-use Rattle.numbers.proofs.refusals.tell.Kinds as tell-kinds
+use Rattle.numbers.proofs.refusals.ToldFromRefusal.from.Reads as told
+use Rattle.numbers.proofs.refusals.ToldFromRefusal.from.Kinds as told-kinds
 use Rattle.numbers.proofs.reading.number.Reads as number
 use Rattle.numbers.proofs.reading.number.Kinds as number-kinds
 use Rattle.numbers.proofs.writing.width.Reads as width
@@ -29,10 +30,10 @@ same p q = p ∙ sym q
 
 -- ---- in the contracts' text
 
-pub tell_unique : (refusal : Refusal) (r r' : Told) → r ≡ told_of refusal → r' ≡ told_of refusal → r ≡ r'
-tell_unique refusal r r' = same
+pub told_unique : (refusal : Refusal) (r r' : Told) → r ≡ told_of refusal → r' ≡ told_of refusal → r ≡ r'
+told_unique refusal r r' = same
 
-pub number_unique : (src : List ℕ) (at : ℕ) (r r' : Read) → r ≡ read_of (number_at src at) → r' ≡ read_of (number_at src at) → r ≡ r'
+pub number_unique : (src : List ℕ) (at : ℕ) (r r' : Result (Part ℕ) Refusal) → r ≡ part_of (number_at src at) → r' ≡ part_of (number_at src at) → r ≡ r'
 number_unique src at r r' = same
 
 pub width_unique : (value r r' : ℕ) → r ≡ length (bytes_of value) → r' ≡ length (bytes_of value) → r ≡ r'
@@ -53,8 +54,8 @@ Fixes {n} ps r Post =
     (κs : Lfts n) (a : Dens κs ps) (x x' : (res_t r κs).Denot) (s s' : AtExit (ended_of n ps r) κs)
     → Post κs a x s → Post κs a x' s' → x ≡ x'
 
-pub tell_fixes : Fixes tell-kinds.ps tell-kinds.r tell.Post
-tell_fixes κs a x x' s s' = tell_unique a.0 x x'
+pub told_fixes : Fixes told-kinds.ps told-kinds.r told.Post
+told_fixes κs a x x' s s' = told_unique a.0 x x'
 
 pub number_fixes : Fixes number-kinds.ps number-kinds.r number.Post
 number_fixes κs a x x' s s' = number_unique a.0.now a.1.0 x x'

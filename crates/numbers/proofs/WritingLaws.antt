@@ -1,8 +1,8 @@
--- Laws of how a number is written, and the invariant of the loop that writes it.
+-- Laws of how a number is written.
 --     groups_of_last, groups_of_more                    the bytes of a number, one group at a time
 --     one_byte, .., one_to_four_bytes             how many they are
 --     no_more_bytes                               no more than the number is large, and 0 takes one
---     Writing, write_start, _more, _last, _room   the loop: what it has still to write gives the whole
+--     bytes_last, bytes_more                      the bytes of a number by its lowest seven bits
 --     put_room, put_big, put_full                 what `put_number` leaves where it writes, and where it does not
 use mathlib.Core.Path.{◌≡◌, refl, sym, ◌∙◌}
 use mathlib.Core.List.{List, [], ◌∷◌}
@@ -10,9 +10,8 @@ use mathlib.Core.Bool.{Bool, false}
 use Prim.Native.Nat.{ℕ, zero, suc, ◌+◌, ◌/◌, ◌%◌, ◌^◌, max, ◌≤◌, ◌<◌}
 use native.Mathlib.Decide.{dec_lt}
 use native.Mathlib.Omega.{arith}
-use native.Mathlib.Numerals.{add-one}
 use borrow.Author.Tests.{lt-ltb, le-ltb, le-leb, lt-leb}
-use lib.ListN.{length, set, length-set}
+use lib.ListN.{length}
 use lib.Seq.{sets}
 use lib.Dec.{ltb}
 use Rattle.numbers.specs.Writing.{groups_of, bytes_of, has_room, put_next, put_into}
@@ -71,40 +70,28 @@ module _ (value : ℕ) where
       by (yes h) = omega (arith, one_byte h)
       by (no h) = omega (arith, one_to_four_bytes)
 
--- ---- the loop
+-- ---- a number in its bytes, put at a place
 
--- `rest` is still to be written into d from i on, in at most `groups` + 1 groups; that gives the whole number, written into d₀ from `at` on.
-pub record Writing (d₀ : List ℕ) (at value : ℕ) (d : List ℕ) (i rest : ℕ) : Type 0 where
-  pub groups : ℕ
-  pub small : rest < 128 ^ suc groups
-  pub same : sets d₀ at (bytes_of value) ≡ sets d i (groups_of (suc groups) rest)
-  pub room : i + length (groups_of (suc groups) rest) ≤ length d
-  pub long : length d ≡ length d₀
+-- a group more than a number needs changes nothing
+small_in : (left v : ℕ) → Dec (v < 128) → (128 ≤ v → groups_of (suc (suc left)) (v / 128) ≡ groups_of (suc left) (v / 128))
+    → groups_of (suc (suc (suc left))) v ≡ groups_of (suc (suc left)) v
+small_in left v (yes l) rest = groups_of_last (suc (suc left)) v l ∙ sym (groups_of_last (suc left) v l)
+small_in left v (no l) rest =
+    let more : 128 ≤ v = omega arith in
+    rw (groups_of_more (suc (suc left)) v more, groups_of_more (suc left) v more, rest more)
 
-pub write_start : (d : List ℕ) (at value : ℕ) → value < 268435456 → at + length (bytes_of value) ≤ length d → Writing d at value d at value
-unfolding bytes_of
-write_start d at value h r = record { groups = 3; small = h; same = refl; room = r; long = refl }
+groups_of_small : (left v : ℕ) → v < 128 ^ suc left → groups_of (suc (suc left)) v ≡ groups_of (suc left) v
+groups_of_small zero v h = groups_of_last 1 v (omega arith) ∙ sym (groups_of_last 0 v (omega arith))
+groups_of_small (suc left) v h = small_in left v (dec_lt v 128) (λ more. groups_of_small left (v / 128) (omega arith))
 
-module _ {d₀ : List ℕ} {at value : ℕ} {d : List ℕ} {i rest : ℕ} where
-  pub write_more : Writing d₀ at value d i rest → 128 ≤ rest → Writing d₀ at value (set d i (rest % 128 + 128)) (i + 1) (rest / 128)
-  write_more w h = go w.groups w.small w.same w.room
-    where
-      go : (k : ℕ) → rest < 128 ^ suc k → sets d₀ at (bytes_of value) ≡ sets d i (groups_of (suc k) rest)
-          → i + length (groups_of (suc k) rest) ≤ length d → Writing d₀ at value (set d i (rest % 128 + 128)) (i + 1) (rest / 128)
-      go zero s e r = absurd (omega arith)
-      go (suc k) s e r = record {
-        groups = k;
-        small = omega arith;
-        same = e ∙ rw (groups_of_more (suc k) rest h, add-one i);
-        room = rw length-set (omega (arith, rw (groups_of_more (suc k) rest h) at r));
-        long = length-set d i (rest % 128 + 128) ∙ w.long;
-      }
+module _ (value : ℕ) where
+  pub bytes_last : value < 128 → bytes_of value ≡ value ∷ []
+  unfolding bytes_of
+  bytes_last h = groups_of_last 3 value h
 
-  pub write_last : Writing d₀ at value d i rest → rest < 128 → set d i rest ≡ sets d₀ at (bytes_of value)
-  write_last w h = sym (w.same ∙ rw (groups_of_last w.groups rest h))
-
-  pub write_room : Writing d₀ at value d i rest → i < length d
-  write_room w = omega (arith, groups_of_some w.groups rest)
+  pub bytes_more : 128 ≤ value → value < 268435456 → bytes_of value ≡ (value % 128 + 128) ∷ bytes_of (value / 128)
+  unfolding bytes_of
+  bytes_more l h = rw (groups_of_more 3 value l, groups_of_small 2 (value / 128) (omega arith))
 
 -- ---- where there is room, and where not
 

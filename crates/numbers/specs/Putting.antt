@@ -1,4 +1,4 @@
--- What the functions that write a part of a file or of a text promise: its bytes are put at a place of a buffer. Only private ones cite it.
+-- What the functions that write a part of a file promise: its bytes are put at a place of a buffer. Only private ones cite it.
 use Rattle.std.specs.Prelude.{◌≡◌, List, ℕ, ◌+◌, length}
 use Rattle.std.proofs.lemmas.List.Edits.{sets}
 

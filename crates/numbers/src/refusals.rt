@@ -3,7 +3,7 @@ ghost use Rattle.std.specs.Prelude.{◌≡◌};
 ghost use Rattle.numbers.specs.Refusals.{told_of};
 
 // Why a file is refused. Places are counted in bytes, from 0.
-#[derive(Clone, Copy)]
+#[derive(Clone, Copy, Debug, PartialEq, Eq)]
 pub enum Refusal {
     // The bytes end inside a number or before one that is due; the value is how many there are.
     Cut { length: usize },
@@ -20,40 +20,42 @@ pub enum Refusal {
 }
 
 // Document 01's number of an answer, and its value.
-#[derive(Clone, Copy)]
+#[derive(Clone, Copy, Debug, PartialEq, Eq)]
 pub struct Told {
     pub number: u32,
     pub value: usize,
 }
 
 // The number and the value of a refusal.
-pub fn tell(refusal: Refusal) -> Told
-    ensures { result ≡ told_of refusal }
-{
-    match refusal {
-        Refusal::Cut { length } => Told {
-            number: 1,
-            value: length,
-        },
-        Refusal::Long { at } => Told {
-            number: 2,
-            value: at,
-        },
-        Refusal::Version => Told {
-            number: 3,
-            value: 0,
-        },
-        Refusal::Outside { at } => Told {
-            number: 4,
-            value: at,
-        },
-        Refusal::NotAbove { at } => Told {
-            number: 5,
-            value: at,
-        },
-        Refusal::After { at } => Told {
-            number: 6,
-            value: at,
-        },
+impl From<Refusal> for Told {
+    ghost from_gives = { λ refusal told. told ≡ told_of refusal };
+
+    fn from(refusal: Refusal) -> Told {
+        match refusal {
+            Refusal::Cut { length } => Told {
+                number: 1,
+                value: length,
+            },
+            Refusal::Long { at } => Told {
+                number: 2,
+                value: at,
+            },
+            Refusal::Version => Told {
+                number: 3,
+                value: 0,
+            },
+            Refusal::Outside { at } => Told {
+                number: 4,
+                value: at,
+            },
+            Refusal::NotAbove { at } => Told {
+                number: 5,
+                value: at,
+            },
+            Refusal::After { at } => Told {
+                number: 6,
+                value: at,
+            },
+        }
     }
 }

@@ -23,17 +23,16 @@ fn put(dst: &mut [u8], at: usize, value: u32)
     requires { (value < 268435456) × (at + length (bytes_of value) ≤ length dst.old) }
     ensures { dst.new ≡ sets dst.old at (bytes_of value) }
 {
-    let mut i = at;
-    let mut rest = value;
-    while 128 <= rest {
-        dst[i] = (rest % 128 + 128) as u8;
-        rest /= 128;
-        i += 1;
+    if 128 <= value {
+        dst[at] = (value % 128 + 128) as u8;
+        put(dst, at + 1, value / 128);
+    } else {
+        dst[at] = value as u8;
     }
-    dst[i] = rest as u8;
 }
 
 // Writes a number at `at` and gives the place past it. Where it is no number or has no room, nothing is written and the place is `at`.
+// The place `at` itself says so, and no `Option` does: the function could never fail, and `put_next` promises this place.
 pub fn put_number(dst: &mut [u8], at: usize, value: u32) -> usize
     ensures { (result ≡ put_next dst.old at value) × (dst.new ≡ put_into dst.old at value) }
 {
@@ -41,10 +40,7 @@ pub fn put_number(dst: &mut [u8], at: usize, value: u32) -> usize
         return at;
     }
     let n = width(value);
-    if dst.len() < at {
-        return at;
-    }
-    if dst.len() - at < n {
+    if dst.len().saturating_sub(at) < n {
         return at;
     }
     put(dst, at, value);
