@@ -1,6 +1,6 @@
 -- Laws of cells and rows, and the invariant of the loop that reads a row through a reader.
---     cell_read                what a number that was read gives for a column is the cell at its place
---     within_cell, below_cell  a number that is asked for its column's range is the column's cell, and fits a byte
+--     range_some               the cells of a column that is there are the numbers of its range
+--     ranged_cell, absent_cell a number that is asked for its column's range is the column's cell; a column that is not there has 0
 --     cell_past                past a cell that was read, a reader stands where the cell ends
 --     onward_none, _push       what was read before, in front of what is read then
 --     row_none, _step, _stop   what `row_at` gives, by its first cell
@@ -11,55 +11,62 @@ use Prim.Native.Nat.{ℕ, suc, ◌+◌, ◌≤◌, ◌<◌}
 use native.Mathlib.Omega.{arith}
 use native.Mathlib.Numerals.{add-one}
 use native.Mathlib.Nat.{zero-add}
-use lib.ListN.{length, set, drop, length-append}
+use Rattle.std.specs.Prelude.{Option, Some, None, Result}
+use lib.ListN.{length, get_or, set, drop, length-append}
 use lib.Seq.{sets, append_snoc, drop-cons, drop-length}
 use Rattle.numbers.specs.declared.refusals.Refusal.{Refusal}
-use Rattle.numbers.specs.declared.reading.Read.{Read}
-use Rattle.numbers.specs.declared.reading.Read.TheVariants.{Value, Refused}
-use Rattle.numbers.specs.Reading.{Out, got, bad, number_at, field_at, read_of}
+use Rattle.numbers.specs.declared.reading.Part.{Part}
+use Rattle.numbers.specs.Reading.{Out, got, bad, number_at, field_at, part_of}
+use Rattle.numbers.proofs.ReadingLaws.{never}
+use Rattle.numbers.proofs.FieldLaws.{field_number}
 use Rattle.numbers.proofs.PutLaws.{sets_append}
 use Rattle.reader.specs.declared.Reader.{Reader}
 use Rattle.reader.specs.Places.{past_of}
 use Rattle.reader.specs.Ranges.{ranged_of}
 use Rattle.reader.specs.Readers.{moved_on}
-use Rattle.reader.proofs.RangeLaws.{ranged_field, ranged_got}
+use Rattle.reader.proofs.RangeLaws.{ranged_field}
 use Rattle.cells.specs.declared.columns.Column.{Column}
 use Rattle.cells.specs.declared.columns.Column.TheVariants.{Within, Below, Absent}
 use Rattle.cells.specs.Rows.{push, cell_at, row_at}
-use Rattle.cells.specs.Answers.{no_cells}
 use Rattle.cells.specs.Passing.{past_cell, past_row}
-use Rattle.cells.specs.Stages.{cell_of, FitsByte, column_at}
+use Rattle.cells.specs.Columns.{range_of}
 use Rattle.cells.proofs.RowMemory.{sets_whole}
 
 -- ---- a cell
 
-pub cell_read : (c : Column) (s : List ℕ) (at : ℕ) → cell_of c at (read_of (number_at s at)) ≡ read_of (cell_at c s at)
+pair : {a b a' b' : ℕ} → ◌≡◌ {A = Option (ℕ × ℕ)} (Some (a, b)) (Some (a', b')) → (a ≡ a') × (b ≡ b')
+pair {a} {b} {a'} {b'} e =
+    let same : ◌≡◌ {A = ℕ × ℕ} (a, b) (a', b') = cc in
+    (ap (λ (p : ℕ × ℕ). p.0) same, ap (λ (p : ℕ × ℕ). p.1) same)
+
+-- the cells of a column are the numbers of its range
+pub range_some : (c : Column) {low end : ℕ} → range_of c ≡ Some (low, end)
+    → ((s : List ℕ) (at : ℕ) → cell_at c s at ≡ field_at s at low end) × ((r : Reader) → past_cell c r ≡ moved_on r)
 unfolding cell_at
-cell_read (Within low most) s at = ranged_field at low (most + 1) s
-cell_read (Below end) s at = ranged_field at 0 end s
-cell_read Absent s at = refl
+range_some (Within low most) e = let (l, m) = pair e in ((λ s at. rw (l, m)), λ r. refl)
+range_some (Below end) e = let (l, m) = pair e in ((λ s at. rw (l, m)), λ r. refl)
+range_some Absent e = never (cc)
 
--- a number that was taken is below its range's end
-fits_byte : (x read : Read) (at low end : ℕ) → x ≡ ranged_of at low end read → end ≤ 256 → FitsByte x
-fits_byte (Value v n) read at low end e h = omega (arith, (ranged_got at low end read v n e).1)
-fits_byte (Refused r) read at low end e h = tt
+-- a number that is asked for its column's range is the column's cell, and the reader is past it
+pub ranged_cell : (c : Column) (r : Reader) {low end : ℕ} {taken : Result (Part ℕ) Refusal} → range_of c ≡ Some (low, end)
+    → taken ≡ ranged_of r.at low end (part_of (number_at r.src.now r.at)) → (taken ≡ part_of (cell_at c r.src.now r.at)) × (past_cell c r ≡ moved_on r)
+ranged_cell c r {low} {end} q e =
+    let (cell, past) = range_some c q in
+    (rw (cell, e) (ranged_field r.at low end r.src.now), past r)
 
-module _ {x : Read} {c : Column} (at : ℕ) (read : Read) where
-  pub within_cell : {low most : ℕ} → c ≡ Within low most → most < 256 → x ≡ ranged_of at low (most + 1) read → (x ≡ cell_of c at read) × FitsByte x
-  within_cell {low} {most} q h e = (rw q e, fits_byte x read at low (most + 1) e (omega arith))
-
-  pub below_cell : {end : ℕ} → c ≡ Below end → end < 256 → x ≡ ranged_of at 0 end read → (x ≡ cell_of c at read) × FitsByte x
-  below_cell {end} q h e = (rw q e, fits_byte x read at 0 end e (omega arith))
+-- a column that is not there takes no bytes
+pub absent_cell : (c : Column) (r : Reader) → range_of c ≡ None → (cell_at c r.src.now r.at ≡ got 0 r.at) × (past_cell c r ≡ r)
+unfolding cell_at
+absent_cell (Within low most) r e = never (cc)
+absent_cell (Below end) r e = never (cc)
+absent_cell Absent r e = (refl, refl)
 
 -- a reader at the place n
 abbrev pub to : Reader → ℕ → Reader
 to r n = record { src = r.src; at = n }
 
 field_past : (r : Reader) (low end : ℕ) {v n : ℕ} → field_at r.src.now r.at low end ≡ got v n → moved_on r ≡ to r n
-field_past r low end {v} {n} e =
-    let s = r.src.now in
-    let taken : Value v n ≡ ranged_of r.at low end (read_of (number_at s r.at)) = sym (ranged_field r.at low end s ∙ ap read_of e) in
-    ap (λ (read : Read). to r (past_of r.at read)) (ranged_got r.at low end (read_of (number_at s r.at)) v n taken).0
+field_past r low end {v} {n} e = ap (λ (o : Out ℕ). to r (past_of r.at (part_of o))) (field_number r.src.now r.at low end v n e)
 
 pub cell_past : (c : Column) (r : Reader) {v n : ℕ} → cell_at c r.src.now r.at ≡ got v n → past_cell c r ≡ to r n
 unfolding cell_at
@@ -82,6 +89,14 @@ onward_push {A} xs v (got ys n) = ap (λ (l : List A). got l n) (sym (append_sno
 onward_push xs v (bad r) = refl
 
 -- ---- the loop over the columns
+
+-- column j; past the last there is none, and any will do
+abbrev pub column_at : List Column → ℕ → Column
+column_at cs j = get_or cs j (Within 0 0)
+
+-- the cells of a row of which nothing is read
+abbrev pub no_cells : List ℕ
+no_cells = 0 ∷ 0 ∷ 0 ∷ 0 ∷ 0 ∷ []
 
 pub row_step : (c : Column) (cs : List Column) (s : List ℕ) (p : ℕ) {v n : ℕ} → cell_at c s p ≡ got v n → row_at (c ∷ cs) s p ≡ push v (row_at cs s n)
 unfolding row_at
@@ -121,10 +136,6 @@ pub record Filling (cs : List Column) (r₀ : Reader) (cells : List ℕ) (r : Re
   pub held : cells ≡ sets no_cells 0 done
 
 module _ {cs : List Column} {r₀ : Reader} where
-  pub fill_start : length cs ≡ 5 → Filling cs r₀ no_cells r₀ 0
-  fill_start five =
-      record { five = five; done = []; many = refl; up = omega arith; same = onward_none _; moved = refl; held = refl }
-
   module _ {cells : List ℕ} {r : Reader} {j : ℕ} (f : Filling cs r₀ cells r j) where
     module _ (h : j < 5) where
       pub next_column : drop j cs ≡ column_at cs j ∷ drop (suc j) cs

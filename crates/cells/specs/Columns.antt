@@ -1,5 +1,5 @@
 -- The columns of the rows of a list, with the range of each (document 01, "The table, in file order").
-use Rattle.std.specs.Prelude.{ℕ, ◌≤◌, ◌<◌, ◌⊎◌, List, [], ◌∷◌, ltb}
+use Rattle.std.specs.Prelude.{ℕ, ◌+◌, ◌≤◌, ◌<◌, ◌⊎◌, List, [], ◌∷◌, Option, Some, None, IfSome, ltb}
 use Rattle.numbers.specs.Reading.{pick}
 use Rattle.cells.specs.declared.columns.Column.{Column}
 use Rattle.cells.specs.declared.columns.Column.TheVariants.{Within, Below, Absent}
@@ -10,6 +10,16 @@ abbrev pub OutOf : Column → ℕ → Type 0
 OutOf (Within low most) v = (v < low) ⊎ (most < v)
 OutOf (Below end) v = end ≤ v
 OutOf Absent v = ⊥
+
+-- the first number of a column and the one past the last
+abbrev pub range_of : Column → Option (ℕ × ℕ)
+range_of (Within low most) = Some (low, most + 1)
+range_of (Below end) = Some (0, end)
+range_of Absent = None
+
+-- a number in the range fits a byte
+abbrev pub ByteRange : Option (ℕ × ℕ) → Type 0
+ByteRange o = IfSome o (λ range. range.1 ≤ 256)
 
 -- the column of thread t, where there are n threads
 abbrev pub of_thread : ℕ → ℕ → Column → Column

@@ -1,9 +1,11 @@
 // The columns of the rows of a list: how many numbers a row has, and the range of each.
-ghost use Rattle.std.specs.Prelude.{◌≡◌};
-ghost use Rattle.cells.specs.Columns.{of_thread, step_columns, push_columns, pop_columns, error_columns};
+ghost use Rattle.std.specs.Prelude.{◌≡◌, []};
+ghost use Rattle.cells.specs.Columns.{range_of, ByteRange, of_thread, per_thread, step_columns, push_columns, pop_columns, error_columns};
+ghost use Rattle.cells.specs.Stages.{below};
 
 // A column of a row. One that is not there takes no bytes.
-#[derive(Clone, Copy)]
+// `Absent` is a variant and no None of an Option of a column: `OutOf` and `cell_at` of specs/ have a case for it.
+#[derive(Clone, Copy, Debug, PartialEq, Eq)]
 pub enum Column {
     Within { low: u8, most: u8 },
     Below { end: u8 },
@@ -11,7 +13,7 @@ pub enum Column {
 }
 
 // How many threads, shared stores, local stores and frames there are.
-#[derive(Clone, Copy)]
+#[derive(Clone, Copy, Debug, PartialEq, Eq)]
 pub struct Sizes {
     pub threads: u8,
     pub shared: u8,
@@ -19,66 +21,84 @@ pub struct Sizes {
     pub frames: u8,
 }
 
-// The column of thread t, where there are n threads.
-pub fn of_thread(n: u8, t: u8, column: Column) -> Column
-    ensures { result ≡ of_thread n t column }
-{
-    if t < n {
-        return column;
+impl Column {
+    // The column of thread t, where there are n threads.
+    pub fn of_thread(self, n: u8, t: u8) -> Column
+        ensures { result ≡ of_thread n t self }
+    {
+        if t < n { self } else { Column::Absent }
     }
-    Column::Absent
+
+    // One column for each thread, where there are n threads.
+    pub fn per_thread(self, n: u8) -> [Column; 4]
+        ensures { result ≡ per_thread n self [] }
+    {
+        [
+            self.of_thread(n, 0),
+            self.of_thread(n, 1),
+            self.of_thread(n, 2),
+            self.of_thread(n, 3),
+        ]
+    }
+
+    // The range of a column's numbers, the first and the one past the last; none where the column is not there.
+    pub fn range(self) -> Option<(u32, u32)>
+        ensures value { result ≡ range_of self }
+        ensures byte { ByteRange result }
+    {
+        match self {
+            Column::Within { low, most } => Some((u32::from(low), u32::from(most) + 1)),
+            Column::Below { end } => Some((0, u32::from(end))),
+            Column::Absent => None,
+        }
+    }
 }
 
-// A step row: t, g, l, g', l'.
-pub fn step_columns(z: Sizes) -> [Column; 5]
-    ensures { result ≡ step_columns z }
-{
-    let thread = Column::Below { end: z.threads };
-    let shared = Column::Below { end: z.shared };
-    let local = Column::Below { end: z.locals };
-    [thread, shared, local, shared, local]
-}
+impl Sizes {
+    // The columns of a thread, a shared store, a local store and a frame, each below how many there are.
+    fn below(self) -> [Column; 4]
+        ensures { result ≡ below self }
+    {
+        [self.threads, self.shared, self.locals, self.frames].map(|end| Column::Below { end })
+    }
 
-// A push row: t, g, l, l', f.
-pub fn push_columns(z: Sizes) -> [Column; 5]
-    ensures { result ≡ push_columns z }
-{
-    let thread = Column::Below { end: z.threads };
-    let shared = Column::Below { end: z.shared };
-    let local = Column::Below { end: z.locals };
-    let frame = Column::Below { end: z.frames };
-    [thread, shared, local, local, frame]
-}
+    // A step row: t, g, l, g', l'.
+    pub fn step_columns(self) -> [Column; 5]
+        ensures { result ≡ step_columns self }
+    {
+        let [thread, shared, local, _] = self.below();
+        [thread, shared, local, shared, local]
+    }
 
-// A pop row: t, g, l, f, l'.
-pub fn pop_columns(z: Sizes) -> [Column; 5]
-    ensures { result ≡ pop_columns z }
-{
-    let thread = Column::Below { end: z.threads };
-    let shared = Column::Below { end: z.shared };
-    let local = Column::Below { end: z.locals };
-    let frame = Column::Below { end: z.frames };
-    [thread, shared, local, frame, local]
-}
+    // A push row: t, g, l, l', f.
+    pub fn push_columns(self) -> [Column; 5]
+        ensures { result ≡ push_columns self }
+    {
+        let [thread, shared, local, frame] = self.below();
+        [thread, shared, local, local, frame]
+    }
 
-// An error row: a shared cell, and one for each thread.
-pub fn error_columns(z: Sizes) -> [Column; 5]
-    ensures { result ≡ error_columns z }
-{
-    let n = z.threads;
-    let shared = Column::Within {
-        low: 0,
-        most: z.shared,
-    };
-    let local = Column::Within {
-        low: 0,
-        most: z.locals,
-    };
-    [
-        shared,
-        of_thread(n, 0, local),
-        of_thread(n, 1, local),
-        of_thread(n, 2, local),
-        of_thread(n, 3, local),
-    ]
+    // A pop row: t, g, l, f, l'.
+    pub fn pop_columns(self) -> [Column; 5]
+        ensures { result ≡ pop_columns self }
+    {
+        let [thread, shared, local, frame] = self.below();
+        [thread, shared, local, frame, local]
+    }
+
+    // An error row: a shared cell, and one for each thread.
+    pub fn error_columns(self) -> [Column; 5]
+        ensures { result ≡ error_columns self }
+    {
+        let shared = Column::Within {
+            low: 0,
+            most: self.shared,
+        };
+        let local = Column::Within {
+            low: 0,
+            most: self.locals,
+        };
+        let [first, second, third, fourth] = local.per_thread(self.threads);
+        [shared, first, second, third, fourth]
+    }
 }

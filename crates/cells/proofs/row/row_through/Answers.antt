@@ -1,18 +1,24 @@
--- `cells::row::row_through` meets its contract: a turn reads the number where the reader stands and moves the reader on (`SoFarLaws`).
-use Rattle.std.proofs.Common.{rules, ◌≡◌, length}
-use Rattle.cells.proofs.SoFarLaws.{going_start, going_on, going_end, due_less}
+-- `cells::row::row_through` meets its contract: a turn reads the cell where the reader stands and moves the reader on.
+use mathlib.Core.Path.{sym, ap, ◌∙◌}
+use Rattle.std.proofs.lemmas.Result.{err_from_is_err_and}
+use Rattle.numbers.specs.Reading.{part_of}
+use Rattle.numbers.proofs.ReadingLaws.{value_got, value_bad}
+use Rattle.cells.proofs.RowLaws.{fill_more, fill_bad, fill_end}
 use Rattle.cells.proofs.row.row_through.Goals as goal
 
-pub loop-sofar-init : goal.loop-sofar-init
-loop-sofar-init c = let five : length c.args.columns ≡ 5 = search rules in rw c.begun-sofar.ensures (going_start five)
+pub returns-in_err-cells : goal.returns-in_err-cells
+returns-in_err-cells c =
+    let exit = err_from_is_err_and c.from_residual.result c.from_residual.ensures.1 in
+    let bad = value_bad _ (sym c.in_err-cells.was ∙ c.read_cell.ensures.0) in
+    let (row, past) = fill_bad c.loop-i.invariant c.loop-i-test.true bad in
+    (rw (exit.1, exit.2) (sym (ap part_of row)), c.read_cell.ensures.1 ∙ sym past)
 
-pub loop-sofar-smaller : goal.loop-sofar-smaller
-loop-sofar-smaller c =
-    rw (c.with_cell-sofar.ensures, c.next-read.ensures.0) (due_less c.loop-sofar.invariant c.loop-sofar-test.true)
-
-pub loop-sofar-preserved : goal.loop-sofar-preserved
-loop-sofar-preserved c =
-    rw (c.with_cell-sofar.ensures, c.next-read.ensures.1, c.next-read.ensures.0) (going_on c.loop-sofar.invariant c.loop-sofar-test.true)
+pub loop-i-preserved : goal.loop-i-preserved
+loop-i-preserved c =
+    let got = value_got _ (sym c.in_ok-cells.was ∙ c.read_cell.ensures.0) in
+    rw (c.read_cell.ensures.1) (fill_more c.loop-i.invariant c.loop-i-test.true got.1)
 
 pub returns : goal.returns
-returns c = going_end c.loop-sofar.invariant c.loop-sofar-test.false
+returns c =
+    let (row, past) = fill_end c.loop-i.invariant c.loop-i-test.false in
+    (rw (c.place.ensures) (sym (ap part_of row)), sym past)
