@@ -5,20 +5,22 @@
 --     list_counted, _uncounted       what `list_at` gives, by its count
 --     Listing, list-…, next_found    i rows are read, and the rest of the list stands from p on
 --     Finding, find-…                the same in the loop that finds a list
-use mathlib.Core.Path.{◌≡◌, refl, sym, ap, ◌∙◌}
+--     list_found, list_refused       what the code's answer tells of a list
+use mathlib.Core.Path.{◌≡◌, refl, ap, ◌∙◌}
 use mathlib.Core.List.{List, [], ◌∷◌, ◌++◌, append-nil}
 use mathlib.Core.Bool.{Bool, true, false}
 use Prim.Native.Nat.{ℕ, zero, suc, ◌+◌, ◌-◌, ◌≤◌, ◌<◌}
 use native.Mathlib.Omega.{arith}
 use native.Mathlib.Nat.{sub-zero}
+use Rattle.std.specs.Prelude.{Option, Some, None, Ok, Err}
 use lib.ListN.{length, length-append}
 use Rattle.numbers.specs.declared.refusals.Refusal.{Refusal}
 use Rattle.numbers.specs.declared.refusals.Refusal.TheVariants.{NotAbove}
-use Rattle.numbers.specs.Reading.{Out, got, bad, pick, field_at}
+use Rattle.numbers.specs.declared.reading.Part.{Part}
+use Rattle.numbers.specs.Reading.{Out, got, bad, part, pick, field_at}
 use Rattle.numbers.proofs.ReadingLaws.{never, parts}
 use Rattle.cells.specs.declared.columns.Column.{Column}
-use Rattle.reader.specs.declared.ends.End.TheVariants.{Past}
-use Rattle.lists.specs.declared.list.ListRead.{ListRead}
+use Rattle.reader.specs.Ends.{end_of}
 use Rattle.lists.specs.Order.{below}
 use Rattle.cells.specs.Rows.{push, row_at}
 use Rattle.lists.specs.Lists.{next_row, rows_at, list_at}
@@ -26,18 +28,18 @@ use Rattle.lists.specs.ListAnswers.{list_of}
 use Rattle.lists.specs.Keeping.{Found}
 use Rattle.lists.specs.Stages.{old_of}
 use Rattle.cells.proofs.RowLaws.{onward, onward_none, onward_push}
-use Rattle.cells.proofs.RowFits.{row_long}
+use Rattle.cells.proofs.RowFits.{row_long, pushed}
 
 -- ---- the next row
 
 module _ (old : List ℕ) (cs : List Column) (s : List ℕ) (at : ℕ) where
-  pub next_yes : {r : List ℕ} {n : ℕ} → row_at cs s at ≡ got r n → true ≡ below old r → next_row old cs s at ≡ got r n
+  pub next_yes : {r : List ℕ} {n : ℕ} → row_at cs s at ≡ got r n → below old r ≡ true → next_row old cs s at ≡ got r n
   unfolding next_row
-  next_yes e h = rw e (rw (sym h))
+  next_yes e h = rw e (rw h)
 
-  pub next_no : {r : List ℕ} {n : ℕ} → row_at cs s at ≡ got r n → false ≡ below old r → next_row old cs s at ≡ bad (NotAbove at)
+  pub next_no : {r : List ℕ} {n : ℕ} → row_at cs s at ≡ got r n → below old r ≡ false → next_row old cs s at ≡ bad (NotAbove at)
   unfolding next_row
-  next_no e h = rw e (rw (sym h))
+  next_no e h = rw e (rw h)
 
   pub next_bad : {x : Refusal} → row_at cs s at ≡ bad x → next_row old cs s at ≡ bad x
   unfolding next_row
@@ -56,25 +58,14 @@ module _ (old : List ℕ) (cs : List Column) (s : List ℕ) (at : ℕ) where
       let q = taken (below old p.first) p.first r p.place n refl p.rest in
       (p.was ∙ q.0, q.1)
 
-below_none : (r : List ℕ) → length r ≡ 5 → true ≡ below [] r
+below_none : (r : List ℕ) → length r ≡ 5 → below [] r ≡ true
 unfolding below
 below_none [] e = absurd (omega arith)
 below_none (x ∷ r) e = refl
 
--- the row before row i
-old_none : (i : ℕ) (old : List ℕ) → i ≡ 0 → old_of i old ≡ []
-old_none zero old e = refl
-old_none (suc i) old e = absurd (omega arith)
-
-pub old_some : (i : ℕ) (old : List ℕ) → (i ≡ 0 → ⊥) → old_of i old ≡ old
-old_some zero old n = absurd (n refl)
-old_some (suc i) old n = refl
-
--- row 0 is above none
-pub next_first : (i : ℕ) (old : List ℕ) (cs : List Column) (s : List ℕ) (at : ℕ) {r : List ℕ} {n : ℕ}
-    → length cs ≡ 5 → i ≡ 0 → row_at cs s at ≡ got r n → next_row (old_of i old) cs s at ≡ got r n
-next_first i old cs s at {r} {n} five z e =
-    rw (old_none i old z) (next_yes [] cs s at e (below_none r (row_long cs s at r n e ∙ five)))
+-- a row with none before it is a next row
+pub next_first : (cs : List Column) (s : List ℕ) (at : ℕ) {r : List ℕ} {n : ℕ} → length cs ≡ 5 → row_at cs s at ≡ got r n → next_row [] cs s at ≡ got r n
+next_first cs s at {r} {n} five e = next_yes [] cs s at e (below_none r (row_long cs s at r n e ∙ five))
 
 -- ---- the loop over the rows
 
@@ -137,31 +128,35 @@ module _ {count : ℕ} {cs : List Column} {s : List ℕ} {at : ℕ} where
         let none : count - i ≡ 0 = omega arith in
         f.same ∙ rw (none, rows_none, append-nil)
 
--- ---- the loop that finds a list: the row before stands beside its number
+-- ---- the loop that finds a list
 
-pub record Finding (count : ℕ) (cs : List Column) (s : List ℕ) (at : ℕ) (old : List ℕ) (p i : ℕ) : Type 0 where
+pub record Finding (count : ℕ) (cs : List Column) (s : List ℕ) (at : ℕ) (before : Option (List ℕ)) (p i : ℕ) : Type 0 where
   pub done : List (List ℕ)
-  pub listing : Listing count cs s at done (old_of i old) p i
+  pub listing : Listing count cs s at done (old_of before) p i
 
 module _ {count : ℕ} {cs : List Column} {s : List ℕ} {at : ℕ} where
-  pub find_start : {old : List ℕ} → Finding count cs s at old at 0
+  pub find_start : Finding count cs s at None at 0
   find_start = record { done = []; listing = list_start }
 
-  module _ {old : List ℕ} {p i : ℕ} (f : Finding count cs s at old p i) where
-    pub find_more : i < count → {r : List ℕ} {n : ℕ} → next_row (old_of i old) cs s p ≡ got r n → Finding count cs s at r n (i + 1)
-    find_more h {r} e =
-        record { done = f.done ++ (r ∷ []); listing = rw (old_some (i + 1) r (λ z. omega arith)) (list_more f.listing h e) }
+  module _ {before : Option (List ℕ)} {p i : ℕ} (f : Finding count cs s at before p i) where
+    pub find_more : i < count → {r : List ℕ} {n : ℕ} → next_row (old_of before) cs s p ≡ got r n → Finding count cs s at (Some r) n (i + 1)
+    find_more h {r} e = record { done = f.done ++ (r ∷ []); listing = list_more f.listing h e }
 
-    pub find_bad : i < count → {x : Refusal} {a : ListRead} → next_row (old_of i old) cs s p ≡ bad x → a ≡ list_of (bad x)
-        → a ≡ list_of (rows_at count [] cs s at)
-    find_bad h e q = rw (list_stop f.listing h e) q
+    pub find_bad : i < count → {x : Refusal} → next_row (old_of before) cs s p ≡ bad x → rows_at count [] cs s at ≡ bad x
+    find_bad h e = list_stop f.listing h e
 
-    pub find_end : count ≤ i → record { count = count; end = Past p } ≡ list_of (rows_at count [] cs s at)
-    find_end h =
-        let all : length f.done ≡ count = omega (arith, f.listing.many, f.listing.up) in
-        rw (list_all f.listing h) (rw all)
+    pub find_end : count ≤ i → Ok p ≡ end_of (rows_at count [] cs s at)
+    find_end h = rw (list_all f.listing h)
 
 -- ---- the count
+
+pub rows_long : (k : ℕ) (old : List ℕ) (cs : List Column) (s : List ℕ) (at : ℕ) (rs : List (List ℕ)) (n : ℕ) → rows_at k old cs s at ≡ got rs n → length rs ≡ k
+unfolding rows_at
+rows_long zero old cs s at rs n e = let none : [] ≡ rs = cc in rw (← none)
+rows_long (suc k) old cs s at rs n e =
+    let p = parts (next_row old cs s at) _ rs n e in
+    let q = pushed p.first (rows_at k p.first cs s p.place) rs n p.rest in
+    rw q.whole (ap suc (rows_long k p.first cs s p.place q.rest n q.was))
 
 module _ (most : ℕ) (cs : List Column) (s : List ℕ) (at : ℕ) where
   pub list_counted : {k n : ℕ} → field_at s at 0 (most + 1) ≡ got k n → list_at most cs s at ≡ rows_at k [] cs s n
@@ -171,3 +166,13 @@ module _ (most : ℕ) (cs : List Column) (s : List ℕ) (at : ℕ) where
   pub list_uncounted : {x : Refusal} → field_at s at 0 (most + 1) ≡ bad x → list_at most cs s at ≡ bad x
   unfolding list_at
   list_uncounted e = rw e
+
+-- ---- what the code's answer tells of a list that was found
+
+pub list_found : (o : Out (List (List ℕ))) {p : Part ℕ} → Ok p ≡ list_of o → (rs : List (List ℕ)) × (o ≡ got rs p.next) × (length rs ≡ p.value)
+list_found (got rs n) {p} e = let same : p ≡ part (length rs) n = cc in (rs, rw same, rw same)
+list_found (bad x) e = never (cc)
+
+pub list_refused : (o : Out (List (List ℕ))) {x : Refusal} → Err x ≡ list_of o → o ≡ bad x
+list_refused (got rs n) e = never (cc)
+list_refused (bad y) {x} e = let same : y ≡ x = cc in rw same

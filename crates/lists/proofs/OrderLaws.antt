@@ -1,66 +1,28 @@
--- Laws of the order of rows, and the invariant of the loop that compares two.
---     below_less, _more, _same    two rows are compared at their first numbers, and at the rest where these are equal
---     Equal, equal-…              two rows are equal up to cell j, and compared by what is left
-use mathlib.Core.Path.{◌≡◌, refl, sym, ap, ap₂, ◌∙◌}
-use mathlib.Core.List.{List, [], ◌∷◌}
-use mathlib.Core.Bool.{true, false}
-use Prim.Native.Nat.{ℕ, suc, ◌+◌, ◌≤◌, ◌<◌}
-use native.Mathlib.Omega.{arith}
-use native.Mathlib.Numerals.{add-one}
-use borrow.Author.Tests.{lt-ltb, le-ltb, eq-eqb, ne_eqb}
-use lib.ListN.{length, get_or, drop}
-use lib.Seq.{drop-cons, drop-length}
+-- Laws of the order of rows.
+--     at_most, not_at_most    of two rows the first is at most the second where the second is not below the first: the library's order is this one
+use mathlib.Core.Path.{◌≡◌, refl}
+use mathlib.Core.List.{List}
+use mathlib.Core.Bool.{Bool, true, false, not}
+use Prim.Native.Nat.{ℕ}
+use Rattle.std.proofs.Common.{arith}
+use Rattle.std.proofs.lemmas.Cmp.{same_from_slice_cmp_tested}
+use Rattle.std.specs.Cmp.Lexicographic.{slice_partial_cmp}
+use Rattle.std.specs.Ordering.{nat_cmp, is_le, is_some_and}
+use Rattle.std.specs.Prelude.{Some}
 use Rattle.lists.specs.Order.{below}
 
-below_less : (a b : ℕ) (l m : List ℕ) → a < b → below (a ∷ l) (b ∷ m) ≡ true
+not_below : (new old : List ℕ) (r : Bool) → r ≡ is_some_and is_le (slice_partial_cmp (λ x y. Some (nat_cmp x y)) new old) → r ≡ not (below old new)
 unfolding below
-below_less a b l m h = simp (ne_eqb a b (λ e. omega arith), lt-ltb _ _ h)
+not_below =
+    same_from_slice_cmp_tested nat_cmp is_le (λ new old. not (below old new)) refl (λ _ _. refl) (λ _ _. refl) (λ x y xs ys o h. grind arith)
 
-pub below_more : (a b : ℕ) (l m : List ℕ) → b < a → below (a ∷ l) (b ∷ m) ≡ false
-unfolding below
-below_more a b l m h = simp (ne_eqb a b (λ e. omega arith), le-ltb a b (omega arith))
+flip : (r t : Bool) → r ≡ not t → t ≡ not r
+flip r true e = rw e
+flip r false e = rw e
 
-below_same : (a b : ℕ) (l m : List ℕ) → a ≡ b → below (a ∷ l) (b ∷ m) ≡ below l m
-unfolding below
-below_same a b l m h = simp (eq-eqb a b h)
+module _ (new old : List ℕ) {r : Bool} (is : r ≡ is_some_and is_le (slice_partial_cmp (λ x y. Some (nat_cmp x y)) new old)) where
+  pub at_most : r ≡ true → below old new ≡ false
+  at_most e = rw e at (flip r (below old new) (not_below new old r is))
 
-below_nil : (l : List ℕ) → below l [] ≡ false
-unfolding below
-below_nil l = refl
-
--- ---- the loop over the cells
-
-pub record Equal (old new : List ℕ) (j : ℕ) : Type 0 where
-  pub five : length old ≡ 5
-  five' : length new ≡ 5
-  pub up : j ≤ 5
-  pub same : below old new ≡ below (drop j old) (drop j new)
-
-module _ {old new : List ℕ} where
-  pub equal_none : length old ≡ 5 → length new ≡ 5 → Equal old new 0
-  equal_none five five' = record { five = five; five' = five'; up = omega arith; same = refl }
-
-  module _ {j : ℕ} (e : Equal old new j) where
-    module _ (h : j < 5) where
-      heads : below old new ≡ below (get_or old j 0 ∷ drop (suc j) old) (get_or new j 0 ∷ drop (suc j) new)
-      heads = e.same ∙ ap₂ below (drop-cons old j 0 (omega (arith, e.five))) (drop-cons new j 0 (omega (arith, e.five')))
-
-      pub equal_less : get_or old j 0 < get_or new j 0 → true ≡ below old new
-      equal_less l = sym (heads ∙ below_less _ _ _ _ l)
-
-      pub equal_more : get_or new j 0 < get_or old j 0 → false ≡ below old new
-      equal_more l = sym (heads ∙ below_more _ _ _ _ l)
-
-      pub equal_again : get_or new j 0 ≤ get_or old j 0 → get_or old j 0 ≤ get_or new j 0 → Equal old new (j + 1)
-      equal_again l m =
-          record {
-            five = e.five;
-            five' = e.five';
-            up = omega arith;
-            same = heads ∙ below_same _ _ _ _ (omega arith) ∙ rw (add-one j);
-          }
-
-    pub equal_all : 5 ≤ j → false ≡ below old new
-    equal_all h =
-        let last : j ≡ length new = omega (arith, e.five', e.up) in
-        sym (e.same ∙ ap (below (drop j old)) (rw last (drop-length new)) ∙ below_nil _)
+  pub not_at_most : r ≡ false → below old new ≡ true
+  not_at_most e = rw e at (flip r (below old new) (not_below new old r is))

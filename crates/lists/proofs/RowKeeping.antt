@@ -9,20 +9,19 @@ use mathlib.Core.List.{List, [], ◌∷◌, ◌++◌, append-nil}
 use Prim.Native.Nat.{ℕ, suc, ◌+◌, ◌/◌, ◌≤◌, ◌<◌}
 use native.Mathlib.Omega.{arith}
 use native.Mathlib.Numerals.{add-one}
+use Rattle.std.specs.Prelude.{Some, None}
 use lib.ListN.{length, get_or, set, drop, length-append}
 use lib.Seq.{sets, length-sets, drop-length}
-use Rattle.numbers.specs.declared.reading.Read.TheVariants.{Value}
-use Rattle.numbers.specs.Reading.{got, number_at, field_at, read_of}
-use Rattle.numbers.proofs.ReadingLaws.{parts, read_got}
+use Rattle.numbers.specs.Reading.{got, number_at}
+use Rattle.numbers.proofs.ReadingLaws.{never, parts}
+use Rattle.numbers.proofs.FieldLaws.{field_got, field_number}
 use Rattle.numbers.proofs.NumberLaws.{Accepted, ended, more, accepted_one, number_accepted, number_past}
 use Rattle.numbers.proofs.PutLaws.{sets_append}
-use Rattle.reader.specs.Ranges.{ranged_of}
-use Rattle.reader.proofs.RangeLaws.{ranged_field, ranged_got}
 use Rattle.cells.specs.declared.columns.Column.{Column}
 use Rattle.cells.specs.declared.columns.Column.TheVariants.{Within, Below, Absent}
 use Rattle.cells.specs.Rows.{cell_at, row_at}
-use Rattle.cells.specs.Stages.{column_at}
-use Rattle.cells.proofs.RowLaws.{onward, onward_none, onward_push, row_step, row_none, drop_column}
+use Rattle.cells.specs.Columns.{range_of}
+use Rattle.cells.proofs.RowLaws.{column_at, range_some, onward, onward_push, row_step, row_none, drop_column}
 use Rattle.cells.proofs.RowFits.{pushed}
 use Rattle.lists.specs.Keeping.{Found, FoundByte, CellKept, RowKept}
 
@@ -57,37 +56,24 @@ module _ (s : List ℕ) (at : ℕ) (f : FoundByte (number_at s at)) where
 
 -- ---- a cell
 
--- a column that is there, whose numbers fit a byte
-abbrev pub OfBytes : Column → Type 0
-OfBytes (Within low most) = most < 256
-OfBytes (Below end) = end < 256
-OfBytes Absent = ⊥
+-- a column whose numbers fit a byte
+module _ (s : List ℕ) (at : ℕ) (c : Column) {low end : ℕ} (range : range_of c ≡ Some (low, end)) (byte : end ≤ 256) where
+  cell_number : (v n : ℕ) → cell_at c s at ≡ got v n → (number_at s at ≡ got v n) × (v < 256)
+  cell_number v n e =
+      let field = sym ((range_some c range).0 s at) ∙ e in
+      (field_number s at low end v n field, omega (arith, field_got s at low end v n field))
 
-module _ (s : List ℕ) (at : ℕ) where
-  field_number : (low end v n : ℕ) → field_at s at low end ≡ got v n → (number_at s at ≡ got v n) × (v < end)
-  field_number low end v n e =
-      let read = read_of (number_at s at) in
-      let taken : Value v n ≡ ranged_of at low end read = sym (ranged_field at low end s ∙ ap read_of e) in
-      let k = ranged_got at low end read v n taken in
-      (read_got (number_at s at) v n (sym k.0), k.1)
+  pub cell_found : Found (cell_at c s at) → FoundByte (number_at s at)
+  cell_found (v, n, e) = let k = cell_number v n e in (v, n, k.0, k.1)
 
-  cell_number : (c : Column) (v n : ℕ) → OfBytes c → cell_at c s at ≡ got v n → (number_at s at ≡ got v n) × (v < 256)
-  unfolding cell_at
-  cell_number (Within low most) v n h e = let k = field_number low (most + 1) v n e in (k.0, omega (arith, k.1))
-  cell_number (Below end) v n h e = let k = field_number 0 end v n e in (k.0, omega (arith, k.1))
-  cell_number Absent v n h e = absurd h
+  pub cell_kept : Found (cell_at c s at) → {to : ℕ} {d d' : List ℕ} {r : ℕ} → CellKept (number_at s at) to d d' r → CellKept (cell_at c s at) to d d' r
+  cell_kept (v, n, e) k = record { value = k.value; was = e ∙ sym (cell_number v n e).0 ∙ k.was; held = k.held }
 
-  pub cell_found : (c : Column) → OfBytes c → Found (cell_at c s at) → FoundByte (number_at s at)
-  cell_found c h (v, n, e) = let k = cell_number c v n h e in (v, n, k.0, k.1)
-
-  pub cell_kept : (c : Column) → OfBytes c → Found (cell_at c s at) → {to : ℕ} {d d' : List ℕ} {r : ℕ}
-      → CellKept (number_at s at) to d d' r → CellKept (cell_at c s at) to d d' r
-  cell_kept c h (v, n, e) k =
-      record { value = k.value; was = e ∙ sym (cell_number c v n h e).0 ∙ k.was; held = k.held }
-
-  pub absent_kept : {c : Column} → c ≡ Absent → {to : ℕ} {d : List ℕ} → CellKept (cell_at c s at) to d (set d to 0) at
-  unfolding cell_at
-  absent_kept q = record { value = 0; was = rw q; held = refl }
+pub absent_kept : (s : List ℕ) (at : ℕ) (c : Column) → range_of c ≡ None → {to : ℕ} {d : List ℕ} → CellKept (cell_at c s at) to d (set d to 0) at
+unfolding cell_at
+absent_kept s at (Within low most) q = never (cc)
+absent_kept s at (Below end) q = never (cc)
+absent_kept s at Absent q = record { value = 0; was = refl; held = refl }
 
 -- ---- a row
 
@@ -108,9 +94,6 @@ pub record Midway (cs : List Column) (s : List ℕ) (at base : ℕ) (d₀ d : Li
   pub held : d ≡ sets d₀ base done
 
 module _ {cs : List Column} {s : List ℕ} {at base : ℕ} {d₀ : List ℕ} where
-  pub mid_start : length cs ≡ 5 → Found (row_at cs s at) → Midway cs s at base d₀ d₀ at 0
-  mid_start five f = record { five = five; done = []; many = refl; found = f; same = onward_none _; held = refl }
-
   module _ {d : List ℕ} {p j : ℕ} (m : Midway cs s at base d₀ d p j) where
     pub mid_long : length d ≡ length d₀
     mid_long = ap length m.held ∙ length-sets d₀ base m.done
@@ -141,7 +124,7 @@ module _ {cs : List Column} {s : List ℕ} {at base : ℕ} {d₀ : List ℕ} whe
             held = k.held ∙ rw (place, m.held, ← m.many) (sets_append m.done (v ∷ []) d₀ base);
           }
 
-  pub mid_end : {d : List ℕ} {p : ℕ} → Midway cs s at base d₀ d p 5 → RowKept (row_at cs s at) base d₀ d p
-  mid_end {d} {p} m =
-      let last : drop 5 cs ≡ [] = rw (← m.five) (drop-length cs) in
+  pub mid_end : {d : List ℕ} {p j : ℕ} → Midway cs s at base d₀ d p j → j ≡ 5 → RowKept (row_at cs s at) base d₀ d p
+  mid_end {d} {p} {j} m e =
+      let last : drop j cs ≡ [] = rw (e, ← m.five) (drop-length cs) in
       record { cells = m.done; was = m.same ∙ rw (last, row_none, append-nil); held = m.held }

@@ -1,11 +1,6 @@
--- `lists::list::find_rows` meets its contract. The loop's invariant: i rows are read, and the rest of the list stands from p on, after the last of them.
--- The measure is how many rows are left.
-use Prim.Native.Nat.{◌-◌}
+-- The loop's invariant: as many rows are read as turns were made, and the rest of the list stands from `next` on, after the last of them.
 use Rattle.lists.proofs.ListLaws.{Finding}
 use Rattle.lists.proofs.list.find_rows.Given as goal
 
 abbrev pub invariant-loop-i : goal.invariant-loop-i
-invariant-loop-i l = Finding l.count l.columns l.src l.at l.old l.p l.i
-
-abbrev pub decreases-loop-i : goal.decreases-loop-i
-decreases-loop-i l = l.count - l.i
+invariant-loop-i l = Finding l.count l.columns l.src l.at l.before l.next l._i
