@@ -1,5 +1,4 @@
 -- The laws of table files, from the bottom up:
---   HeaderLaws     the stages of the header are the header
 --   RowKinds       rows as records and as cells
 --   TableLaws      what is known of a table that was read: it is sound, and where each cell stands
 --   TableStops     a file is refused where its first fault is
@@ -8,7 +7,6 @@
 --   WLaws       W, at most 2,360,320
 --   Computed       the definition of a table's file, ready to compute
 --   Unique         two results that a contract allows are equal
-pub mod HeaderLaws
 pub mod RowKinds
 pub mod TableLaws
 pub mod TableStops

@@ -6,7 +6,12 @@ use Prim.Native.Nat.{ℕ}
 use contract.Lifetimes.{Lfts}
 use denote.Triple.Clauses.{AtExit}
 use borrow.Fn.Kinds.{Dens, ended_of}
+use Rattle.std.specs.Prelude.{Result}
+use Rattle.numbers.specs.declared.refusals.Refusal.{Refusal}
 use Rattle.files.specs.declared.table.TableRead.{TableRead}
+use Rattle.files.specs.declared.table.TableRows.{TableRows}
+use Rattle.files.proofs.table.TableRows.new.Reads as new_lem
+use Rattle.files.proofs.table.TableRows.new.Kinds as new-kinds
 use Rattle.files.specs.File.{TableIs}
 use Rattle.files.proofs.header.w_of.Reads as w_of_lem
 use Rattle.files.proofs.header.w_of.Kinds as w-of-kinds
@@ -22,18 +27,23 @@ w_of_fixes κs a x x' s s' = same
 pub read_header_fixes : Fixes read-header-kinds.ps read-header-kinds.r read-header.Post
 read_header_fixes κs a x x' s s' = same
 
--- the answer of the table reader, and every byte of the four memories
-pub table_is_unique : (s : List ℕ) (r r' : TableRead) (a b c d a' b' c' d' a'' b'' c'' d'' : List ℕ)
-    → TableIs s r a b c d a' b' c' d' → TableIs s r' a b c d a'' b'' c'' d'' → (r ≡ r') × (a' ≡ a'') × (b' ≡ b'') × (c' ≡ c'') × (d' ≡ d'')
-table_is_unique s r r' a b c d a' b' c' d' a'' b'' c'' d'' t u =
-    (same t.answer u.answer, same t.steps u.steps, same t.pushes u.pushes, same t.pops u.pops, same t.errors u.errors)
+pub new_fixes : Fixes new-kinds.ps new-kinds.r new_lem.Post
+new_fixes κs a x x' s s' = same
 
-pub read_table_fixes : (κs : Lfts 5) (a : Dens κs read-table-kinds.ps) (x x' : TableRead)
-    (s s' : AtExit (ended_of 5 read-table-kinds.ps read-table-kinds.r) κs)
-    → read_table.Post κs a x s → read_table.Post κs a x' s'
-    → (x ≡ x')
-    × (s.1.0.now ≡ s'.1.0.now)
-    × (s.1.1.0.now ≡ s'.1.1.0.now)
-    × (s.1.1.1.0.now ≡ s'.1.1.1.0.now)
-    × (s.1.1.1.1.0.now ≡ s'.1.1.1.1.0.now)
-read_table_fixes κs a x x' s s' = table_is_unique _ x x' _ _ _ _ _ _ _ _ _ _ _ _
+-- the answer of the table reader, and every byte of the memory
+pub table_is_unique : (s : List ℕ) (r r' : Result TableRead Refusal) (rows rows' rows'' : TableRows)
+    → TableIs s r rows rows' → TableIs s r' rows rows'' → (r ≡ r') × (rows' ≡ rows'')
+table_is_unique s r r' rows rows' rows'' t u = (
+  same t.answer u.answer,
+  λ i. record {
+    steps = same t.steps u.steps i;
+    pushes = same t.pushes u.pushes i;
+    pops = same t.pops u.pops i;
+    errors = same t.errors u.errors i;
+  },
+)
+
+pub read_table_fixes : (κs : Lfts 2) (a : Dens κs read-table-kinds.ps) (x x' : Result TableRead Refusal)
+    (s s' : AtExit (ended_of 2 read-table-kinds.ps read-table-kinds.r) κs)
+    → read_table.Post κs a x s → read_table.Post κs a x' s' → (x ≡ x') × (s.1.0.now ≡ s'.1.0.now)
+read_table_fixes κs a x x' s s' = table_is_unique _ x x' _ _ _

@@ -1,17 +1,18 @@
 -- A whole table file (document 01, "The table, in file order" and "What comes back"): the table that it holds, or the refusal.
-use Rattle.std.specs.Prelude.{ℕ, ◌≡◌, List, [], ◌∷◌, map, length, get_or, take, drop}
+use Rattle.std.specs.Prelude.{ℕ, ◌*◌, ◌≡◌, List, [], ◌∷◌, Result, Ok, Err, map, length, get_or, take, drop, replicate}
 use Rattle.std.proofs.lemmas.List.Edits.{sets}
+use Rattle.numbers.specs.declared.refusals.Refusal.{Refusal}
 use Rattle.numbers.specs.Reading.{Out, got, bad, then}
 use Rattle.reader.specs.Ends.{at_end}
 use Rattle.files.specs.declared.header.Header.{Header}
 use Rattle.files.specs.declared.table.Counts.{Counts}
-use Rattle.files.specs.declared.table.Outcome.TheVariants.{Accepted, Refused}
 use Rattle.files.specs.declared.table.TableRead.{TableRead}
+use Rattle.files.specs.declared.table.TableRows.{TableRows}
 use Rattle.files.specs.Table.{Table, Step, Push, Pop, Error, step_cells, push_cells, pop_cells, error_cells}
 use Rattle.files.specs.Table.{most_steps, most_pushes, most_pops, most_errors}
 use Rattle.cells.specs.Columns.{step_columns, push_columns, pop_columns, error_columns}
 use Rattle.lists.specs.Lists.{list_at, flat}
-use Rattle.files.specs.Header.{header_of, header_at, no_header}
+use Rattle.files.specs.Header.{header_of, header_at}
 
 -- ---- the table of a header and four lists of rows
 
@@ -64,9 +65,20 @@ header_in T = header_of (T.n ∷ T.G ∷ T.L ∷ T.F ∷ []) (T.failed ∷ T.g�
 abbrev pub counts_in : Table → Counts
 counts_in T = record { steps = length T.steps; pushes = length T.pushes; pops = length T.pops; errors = length T.errors }
 
-abbrev pub table_read_of : Out Table → TableRead
-table_read_of (got T next) = record { header = header_in T; counts = counts_in T; outcome = Accepted }
-table_read_of (bad r) = record { header = no_header; counts = record { steps = 0; pushes = 0; pops = 0; errors = 0 }; outcome = Refused r }
+-- what is read of a table beside its rows, or the refusal
+abbrev pub table_read_of : Out Table → Result TableRead Refusal
+table_read_of (got T next) = Ok (record { header = header_in T; counts = counts_in T })
+table_read_of (bad r) = Err r
+
+-- a memory for the rows with nothing in it, five bytes a row
+abbrev pub no_rows : TableRows
+no_rows =
+    record {
+      steps = replicate (5 * most_steps) 0;
+      pushes = replicate (5 * most_pushes) 0;
+      pops = replicate (5 * most_pops) 0;
+      errors = replicate (5 * most_errors) 0;
+    }
 
 -- the rows of a list, cell by cell
 abbrev pub row_bytes : {Row : Type 0} → (Row → List ℕ) → List Row → List ℕ
@@ -77,10 +89,10 @@ abbrev pub held_in : (Table → List ℕ) → Out Table → List ℕ → List �
 held_in bytes (got T next) d = sets d 0 (bytes T)
 held_in bytes (bad r) d = d
 
--- the contract of the table reader: the answer, and what each memory holds
-pub record TableIs (s : List ℕ) (r : TableRead) (a b c d a' b' c' d' : List ℕ) : Type 0 where
+-- the contract of the table reader: the answer, and what the memory of each list holds
+pub record TableIs (s : List ℕ) (r : Result TableRead Refusal) (rows rows' : TableRows) : Type 0 where
   pub answer : r ≡ table_read_of (table_at s)
-  pub steps : a' ≡ held_in (λ T. row_bytes step_cells T.steps) (table_at s) a
-  pub pushes : b' ≡ held_in (λ T. row_bytes push_cells T.pushes) (table_at s) b
-  pub pops : c' ≡ held_in (λ T. row_bytes pop_cells T.pops) (table_at s) c
-  pub errors : d' ≡ held_in (λ T. row_bytes error_cells T.errors) (table_at s) d
+  pub steps : rows'.steps ≡ held_in (λ T. row_bytes step_cells T.steps) (table_at s) rows.steps
+  pub pushes : rows'.pushes ≡ held_in (λ T. row_bytes push_cells T.pushes) (table_at s) rows.pushes
+  pub pops : rows'.pops ≡ held_in (λ T. row_bytes pop_cells T.pops) (table_at s) rows.pops
+  pub errors : rows'.errors ≡ held_in (λ T. row_bytes error_cells T.errors) (table_at s) rows.errors

@@ -1,12 +1,10 @@
 -- The header of a table file: all that stands before the count of step rows (document 01, "The table, in file order").
 use Rattle.std.specs.Prelude.{ℕ, List, [], ◌∷◌, get_or}
-use Rattle.numbers.specs.Reading.{Out, got, bad, then, version_at}
+use Rattle.numbers.specs.Reading.{Out, got, then, version_at}
 use Rattle.cells.specs.declared.columns.Column.{Column}
 use Rattle.cells.specs.declared.columns.Column.TheVariants.{Within, Below, Absent}
 use Rattle.cells.specs.declared.columns.Sizes.{Sizes}
 use Rattle.files.specs.declared.header.Header.{Header}
-use Rattle.files.specs.declared.header.HeaderRead.{HeaderRead}
-use Rattle.reader.specs.declared.ends.End.TheVariants.{Past, Refused}
 use Rattle.cells.specs.Columns.{per_thread}
 use Rattle.cells.specs.Rows.{row_at}
 use Rattle.files.specs.Table.{most_threads, most_shared, most_locals, most_frames}
@@ -45,12 +43,3 @@ header_at s =
     then (row_at (place_columns (sizes_of z)) s p) λ q p.
     then (row_at (local_columns (sizes_of z)) s p) λ ls p.
     got (header_of z q ls) p
-
--- ---- what the code answers
-
-abbrev pub no_header : Header
-no_header = header_of [] [] []
-
-abbrev pub header_read_of : Out Header → HeaderRead
-header_read_of (got h next) = record { header = h; end = Past next }
-header_read_of (bad r) = record { header = no_header; end = Refused r }
