@@ -6,7 +6,7 @@ use native.Mathlib.Nat.{mul-le-mul, mod-lt, mul-le-mul_right, div-lt_iff_lt-mul}
 use native.Mathlib.Omega.{arith}
 use lib.Arith.{digits_lt}
 use Rattle.model.proofs.Positions.{right_pos}
-use Rattle.positions.specs.declared.plan.Plan.{Plan}
+use Rattle.positions.specs.Plans.{Plan}
 use Rattle.positions.specs.Plans.{Planned, pair, p_at, p_from, q_from, g_at}
 
 module _ {s : Plan} (h : Planned s) where
@@ -26,13 +26,6 @@ module _ {s : Plan} (h : Planned s) where
 
   pub q_stretch : {f : ℕ} → f < s.f → f * s.k + s.k ≤ s.f * s.k
   q_stretch {f} x = omega (arith, mul-le-mul_right s.k x)
-
-  -- a fact in its stretch
-  pub p_lt : {t a c : ℕ} → t < s.n → a < s.k → c < s.k → p_from s t a + c < s.w
-  p_lt x y z = omega (arith, p_stretch x y, h.w)
-
-  pub q_lt : {t a f c : ℕ} → t < s.n → a < s.k → f < s.f → c < s.k → q_from s t a + f * s.k + c < s.w
-  q_lt x y z u = omega (arith, q_stretches x y, q_stretch z)
 
   pub g_lt : {t g g' : ℕ} → t < s.n → g < s.g → g' < s.g → g_at s t g g' < s.p
   g_lt a b c = omega (arith, digits_lt (digits_lt a b) c, h.p)
@@ -65,9 +58,6 @@ module _ {s : Plan} (h : Planned s) where
       let d = mul-le-mul {n₁ = t} {n₂ = 4} {m₂ = 16} (omega (arith, h.n_max)) h.g_max in
       let e : t * s.g + g ≤ 80 = omega (arith, h.g_max) in
       (d, mul-le-mul {n₁ = t * s.g + g} {n₂ = 80} {m₂ = 16} e h.g_max)
-
-  pub ck_small : {c : ℕ} → c < s.k → c * s.k ≤ 65536
-  ck_small {c} a = mul-le-mul {n₁ = c} {n₂ = 256} {m₂ = 256} (omega (arith, h.k_max)) h.k_max
 
   -- the pairs of one shared store
   pub cut : (m : ℕ) → m < s.g → m * s.l + s.l ≤ s.k

@@ -8,7 +8,7 @@ use Rattle.files.specs.Table.{Table, Sound, W, w_of}
 use Rattle.model.specs.Rules.{G, P, Q}
 use Rattle.model.specs.Positions.{base_p, base_q, pos}
 use Rattle.files.proofs.WLaws.{W_max}
-use Rattle.positions.specs.declared.plan.Plan.{Plan}
+use Rattle.positions.specs.Plans.{Plan}
 use Rattle.positions.specs.Plans.{Planned, p_at, p_from, q_from, g_at, plan_of}
 use Rattle.positions.proofs.Places.{small}
 

@@ -2,7 +2,18 @@
 -- side by side, one for each pair where a fact may end, and so do its Q facts from one pair with one frame: this is a stretch of facts.
 use Rattle.std.specs.Prelude.{◌≡◌, ℕ, ◌+◌, ◌*◌, ◌<◌, ◌≤◌}
 use Rattle.files.specs.Table.{Table, most_threads, most_shared, most_locals, most_frames, most_facts}
-use Rattle.positions.specs.declared.plan.Plan.{Plan}
+
+-- n threads, g shared stores, l local stores, f frames; k pairs of a shared and a local store; p and q, where the P and the Q facts begin; w facts
+-- in all
+pub record Plan : Type 0 where
+  pub n : ℕ
+  pub g : ℕ
+  pub l : ℕ
+  pub f : ℕ
+  pub k : ℕ
+  pub p : ℕ
+  pub q : ℕ
+  pub w : ℕ
 
 -- a pair of a shared and a local store is a number below k; p and q are where the P and the Q facts begin, and w is how many facts there are
 pub record Planned (s : Plan) : Type 0 where
