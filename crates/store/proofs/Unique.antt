@@ -1,7 +1,7 @@
 -- Two results that a contract allows are equal: for each public function, of its contract as the prover reads it from the source (`Post`), with
 -- every byte lent. Most contracts are equations for the answer or the memory. Those that are none come first: what a test answers, the next mark,
 -- a memory whose first marks are taken off, and a list of rows, whose length is its type's.
-use mathlib.Core.Path.{◌≡◌, refl, sym, ap₂, ◌∙◌}
+use mathlib.Core.Path.{◌≡◌, refl, sym, ap, ap₂, ◌∙◌}
 use mathlib.Core.Bool.{Bool, true, false}
 use mathlib.Core.List.{List, ◌++◌}
 use Prim.Native.Nat.{ℕ, ◌<◌}
@@ -12,10 +12,11 @@ use lib.Seq.{ext_get_or}
 use contract.Lifetimes.{Lfts}
 use denote.Triple.Clauses.{AtExit}
 use borrow.Fn.Kinds.{Dens, res_t, ended_of}
+use Rattle.std.specs.Prelude.{Option, Some, None}
 use Rattle.numbers.proofs.Unique.{same, Fixes}
 use Rattle.model.proofs.Unique.{first_same}
 use Rattle.store.specs.declared.rows.Row.{Row}
-use Rattle.store.specs.Marking.{Is, NextMark, here, nowhere}
+use Rattle.store.specs.Marking.{Is, NextMark}
 use Rattle.store.specs.Clearing.{Cleared}
 use Rattle.store.specs.Reading.{zero_row, nth, Unpacked}
 use Rattle.store.proofs.marks.has.Reads as has
@@ -48,11 +49,11 @@ is_unique A true false a b = absurd (b a)
 is_unique A false true a b = absurd (a b)
 is_unique A false false a b = refl
 
-pub next_unique : {m : List ℕ} {from w p q : ℕ} → NextMark m from w p → NextMark m from w q → p ≡ q
-next_unique (here f) (here g) = first_same f g
-next_unique (here f) (nowhere n) = absurd (n _ f.here)
-next_unique (nowhere n) (here g) = absurd (n _ g.here)
-next_unique (nowhere n) (nowhere _) = refl
+pub next_unique : (m : List ℕ) (from w : ℕ) (o q : Option ℕ) → NextMark m from w o → NextMark m from w q → o ≡ q
+next_unique m from w (Some p) (Some q) f g = ap Some (first_same f g)
+next_unique m from w (Some p) None f none = absurd (none _ f.here)
+next_unique m from w None (Some q) none g = absurd (none _ g.here)
+next_unique m from w None None none none' = refl
 
 -- a memory is one by its two parts
 pub parts_same : (w : ℕ) {m m' : List ℕ} → take w m ≡ take w m' → drop w m ≡ drop w m' → m ≡ m'
@@ -81,7 +82,7 @@ pub lacks_fixes : Fixes lacks-kinds.ps lacks-kinds.r lacks.Post
 lacks_fixes κs a x x' s s' = is_unique _ x x'
 
 pub next_mark_fixes : Fixes next-mark-kinds.ps next-mark-kinds.r next-mark.Post
-next_mark_fixes κs a x x' s s' = next_unique
+next_mark_fixes κs a x x' s s' = next_unique _ _ _ x x'
 
 pub cell_fixes : Fixes cell-kinds.ps cell-kinds.r cell.Post
 cell_fixes κs a x x' s s' = same

@@ -1,5 +1,5 @@
 -- Marks in the lent memory (01, "Working memory and claims"): what the tests answer and the changes leave, by model's mark.
-use Rattle.std.specs.Prelude.{◌≡◌, Bool, true, false, List, ℕ, ◌+◌, ◌<◌, ◌≤◌, set, length}
+use Rattle.std.specs.Prelude.{◌≡◌, Bool, true, false, List, Option, Some, None, ℕ, ◌+◌, ◌<◌, ◌≤◌, set, length}
 use Rattle.model.specs.Memory.{mark}
 use Rattle.model.specs.Claims.{First}
 
@@ -31,10 +31,10 @@ pub record MarkFrom (m : List ℕ) (from w p : ℕ) : Type 0 where
   pub below : p < w
   pub has : Has m p
 
--- the first mark at or past `from` and below w; or w, where there is none
-pub data NextMark (m : List ℕ) (from w : ℕ) : ℕ → Type 0 where
-  here : {p : ℕ} → First (MarkFrom m from w) p → NextMark m from w p
-  nowhere : ((p : ℕ) → ¬ MarkFrom m from w p) → NextMark m from w w
+-- the first mark at or past `from` and below w; or that there is none
+abbrev pub NextMark : List ℕ → ℕ → ℕ → Option ℕ → Type 0
+NextMark m from w (Some p) = First (MarkFrom m from w) p
+NextMark m from w None = (p : ℕ) → ¬ MarkFrom m from w p
 
 -- the memory with a mark put at p
 unfoldable pub marked : List ℕ → ℕ → List ℕ

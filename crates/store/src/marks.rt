@@ -16,14 +16,11 @@ pub fn some(mem: &[u8], x: usize, n: usize) -> bool
     requires { x + n ≤ room mem.now }
     ensures { Is (SomeIn mem.now x n) result }
 {
-    let mut found: u8 = 0;
-    let mut j: usize = 0;
-    while j < n {
-        let here = mem[x + j] == 1;
-        found = found | here as u8;
-        j += 1;
+    let mut found = false;
+    for j in 0..n {
+        found |= mem[x + j] == 1;
     }
-    found != 0
+    found
 }
 
 // Whether one of the n places from x on has a mark where its partner, of the n from y on, has none. It has no branch, as above.
@@ -31,30 +28,24 @@ pub fn lacks(mem: &[u8], x: usize, y: usize, n: usize) -> bool
     requires { (x + n ≤ room mem.now) × (y + n ≤ room mem.now) }
     ensures { Is (LacksIn mem.now x y n) result }
 {
-    let mut found: u8 = 0;
-    let mut j: usize = 0;
-    while j < n {
-        let here = mem[x + j] == 1;
-        let there = mem[y + j] != 1;
-        found = found | (here as u8 & there as u8);
-        j += 1;
+    let mut found = false;
+    for j in 0..n {
+        found |= (mem[x + j] == 1) & (mem[y + j] != 1);
     }
-    found != 0
+    found
 }
 
-// The first mark at or past `from` and below w; w if there is none.
-pub fn next_mark(mem: &[u8], from: usize, w: usize) -> usize
+// The first mark at or past `from` and below w.
+pub fn next_mark(mem: &[u8], from: usize, w: usize) -> Option<usize>
     requires { w ≤ room mem.now }
     ensures { NextMark mem.now from w result }
 {
-    let mut p = from;
-    while p < w {
+    for p in from..w {
         if has(mem, p) {
-            return p;
+            return Some(p);
         }
-        p += 1;
     }
-    w
+    None
 }
 
 // Puts a mark at p. Every other byte is as it was.
@@ -69,11 +60,7 @@ pub fn put_mark(mem: &mut [u8], p: usize)
 pub fn clear(mem: &mut [u8])
     ensures { mem.new ≡ replicate (length mem.old) 0 }
 {
-    let mut i = 0;
-    while i < mem.len() {
-        mem[i] = 0;
-        i += 1;
-    }
+    mem.fill(0);
 }
 
 // Takes the first w marks off, and leaves the others as they are.

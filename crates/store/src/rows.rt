@@ -23,10 +23,15 @@ pub struct RowCounts {
     pub pops: usize,
 }
 
-fn wide(x: u8) -> usize
-    ensures { result ≡ x }
-{
-    x as usize
+// A table's rows, lent: how many there are of each kind, and their bytes. The numbers stand beside the slices: the lent memory is of fixed size and
+// longer than the rows, and `RowsOf` of engine and `Laid` of check_call speak of both. The rows stay bytes: only step rows are unpacked, once, since
+// rule 4 walks them for each fact.
+#[derive(Clone, Copy)]
+pub struct RowLists<'a> {
+    pub counts: RowCounts,
+    pub steps: &'a [u8],
+    pub pushes: &'a [u8],
+    pub pops: &'a [u8],
 }
 
 // The byte at i of lent rows, as a number that positions are worked out with.
@@ -34,7 +39,7 @@ pub fn cell(rows: &[u8], i: usize) -> usize
     requires { i < length rows.now }
     ensures { result ≡ get_or rows.now i 0 }
 {
-    wide(rows[i])
+    usize::from(rows[i])
 }
 
 // Row i of lent rows: the five bytes from 5 * i on.
@@ -43,17 +48,12 @@ pub fn row_at(rows: &[u8], i: usize) -> Row
     ensures { result ≡ row_of rows.now i }
 {
     let a = i * 5;
-    let t = rows[a];
-    let g = rows[a + 1];
-    let l = rows[a + 2];
-    let u = rows[a + 3];
-    let v = rows[a + 4];
     Row {
-        t: t,
-        g: g,
-        l: l,
-        u: u,
-        v: v,
+        t: rows[a],
+        g: rows[a + 1],
+        l: rows[a + 2],
+        u: rows[a + 3],
+        v: rows[a + 4],
     }
 }
 
@@ -70,11 +70,8 @@ pub fn step_rows(steps: &[u8], n: usize) -> [Row; STEP_ROWS]
         v: 0,
     };
     let mut rows = [zeros; STEP_ROWS];
-    let mut i: usize = 0;
-    while i < n {
-        let r = row_at(steps, i);
-        rows[i] = r;
-        i += 1;
+    for i in 0..n {
+        rows[i] = row_at(steps, i);
     }
     rows
 }
