@@ -13,9 +13,8 @@ use Rattle.store.specs.Marking.{Has}
 use Rattle.positions.specs.Plans.{plan_of}
 use Rattle.store.specs.Reading.{row_of, as_step, as_push, as_pop, Same}
 use Rattle.positions.proofs.PlanIsModel.{pos_g, pos_p_stretch, pos_q_stretch}
-use Rattle.uses.specs.declared.kinds.Kind.TheVariants.{Push as Pushing, Pop as Popping}
 use Rattle.uses.specs.Uses.{Uses}
-use Rattle.uses.specs.RuleUses.{StepUse, PushUse, PopUse, OfRows, StepUses, RowUses}
+use Rattle.uses.specs.RuleUses.{StepUse, PushUse, PopUse, OfRows, StepUses, PushUses, PopUses}
 use Rattle.uses.proofs.Bridge.{Used, upto_at, used-from, Yielded, one_yields, g_stands, p_stands, q_stands}
 
 -- ---- the first n rows and the table's list
@@ -45,10 +44,10 @@ module _ (T : Table) (m : List ℕ) (n : ℕ) (rows : List ℕ) (a b : ℕ) wher
   StepsOf t = StepUses (plan_of T) t (a * T.L + b) (row_of rows) n
 
   abbrev PushesOf : ℕ → Uses
-  PushesOf t = RowUses Pushing (plan_of T) t (a * T.L + b) rows n
+  PushesOf t = PushUses (plan_of T) t (a * T.L + b) rows n
 
   abbrev PopsOf : ℕ → Uses
-  PopsOf t = RowUses Popping (plan_of T) t (a * T.L + b) rows n
+  PopsOf t = PopUses (plan_of T) t (a * T.L + b) rows n
 
   -- rule 4
   abbrev StepGives : Step → Type 0
@@ -114,7 +113,7 @@ module _ {T : Table} (sound : Sound T) {m : List ℕ} {a q x y : ℕ} (ah : a < 
       one_yields (p_stands sound ok.t ah ok.g ok.l)
       (record { fits = (ok.t, ok.g, ok.l', ok.g, ok.l'); here = pos_p_stretch T r.t r.g r.u r.g r.u }) (λ p. push_P p row) u h
 
-  pub push_yields : (t : ℕ) {n : ℕ} {rows : List ℕ} → Same as_push rows n T.pushes → RowUses Pushing (plan_of T) t a rows n q x y → Yielded T m y
+  pub push_yields : (t : ℕ) {n : ℕ} {rows : List ℕ} → Same as_push rows n T.pushes → PushUses (plan_of T) t a rows n q x y → Yielded T m y
   push_yields t same =
       of_one same (λ (t : ℕ). PushUse (plan_of T) t a) t
       (λ r row. push_one r (sound.pushes.fits _ row) (record { row = row; taken = tt }))
@@ -124,7 +123,7 @@ module _ {T : Table} (sound : Sound T) {m : List ℕ} {a q x y : ℕ} (ah : a < 
   pop_one r ok row u =
       one_yields (q_stands sound ok.t ah ok.f ok.g ok.l) (p_stands sound ok.t ah ok.g ok.l') (λ p. pop_P p row) u h
 
-  pub pop_yields : (t : ℕ) {n : ℕ} {rows : List ℕ} → Same as_pop rows n T.pops → RowUses Popping (plan_of T) t a rows n q x y → Yielded T m y
+  pub pop_yields : (t : ℕ) {n : ℕ} {rows : List ℕ} → Same as_pop rows n T.pops → PopUses (plan_of T) t a rows n q x y → Yielded T m y
   pop_yields t same =
       of_one same (λ (t : ℕ). PopUse (plan_of T) t a) t
       (λ r row. pop_one r (sound.pops.fits _ row) (record { row = row; taken = tt }))

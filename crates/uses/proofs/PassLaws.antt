@@ -5,7 +5,7 @@ use mathlib.Core.Path.{◌≡◌, refl, sym, subst, ◌∙◌}
 use mathlib.Core.Bool.{Bool, true, false}
 use mathlib.Core.Logic.{◌⊎◌, inl, inr}
 use mathlib.Core.List.{List}
-use Prim.Native.Nat.{ℕ, ◌+◌, ◌<◌, ◌≤◌}
+use Prim.Native.Nat.{ℕ, ◌+◌, ◌<◌, ◌≤◌, min}
 use native.Mathlib.Nat.{add-zero, add-suc, not-suc-le-zero}
 use native.Mathlib.Decide.{dec_lt}
 use native.Mathlib.Omega.{arith}
@@ -94,10 +94,6 @@ swept_of {I} A {put} {b} {r} {m} {m'} e s = subst (λ (i : I). Swept (A i) put b
 -- ---- what every pass keeps, and the pass that does nothing
 
 module _ {U : Uses} where
-  pub swept_room : {put : Bool} {b r : Pass} {m m' : List ℕ} → Swept U put b r m m' → room m' ≡ room m
-  swept_room (looks k) = refl
-  swept_room (puts p done) = puts_room p
-
   pub looked_idle : {b : Pass} {m : List ℕ} → (0 < b.left → (y : ℕ) → ¬ Lacks U m y) → Looked U b b m
   looked_idle n = record { left = refl; least = λ h y l. absurd (n h y l); first = inl refl; le = omega arith }
 
@@ -257,14 +253,15 @@ module _ {x y : ℕ} {b : Pass} {m : List ℕ} where
       rw e
       (puts (record { count = 1; grew = more y none l (lacks_one h n); left = left; best = best }) (λ i same. absurd (omega arith)))
 
-  -- y lacks, and is the smallest so far
-  pub one_less : {put : Bool} {r : Pass} → put ≡ false → Has m x → ¬ Has m y → y < b.best → r.best ≡ y → r.left ≡ b.left
-      → Swept (Single x y) put b r m m
-  one_less {r} e h n lt best left = rw e (looks (looked_one {r = r} left (omega arith) (omega arith) (inr (rw best (lacks_one h n)))))
-
-  -- y lacks, and is not
-  pub one_more : {put : Bool} → put ≡ false → b.best ≤ y → Swept (Single x y) put b b m m
-  one_more e le = rw e (looks (looked_one refl (omega arith) le (inl refl)))
+  -- y lacks, and the smallest so far is kept
+  pub one_looks : {put : Bool} {least : ℕ} → put ≡ false → Has m x → ¬ Has m y → least ≡ min y b.best
+      → Swept (Single x y) put b (record { best = least; left = b.left }) m m
+  one_looks {least} e h n is =
+      rw e (looks (looked_one {r = record { best = least; left = b.left }} refl (omega (arith, is)) (omega (arith, is)) (go (dec_lt y b.best))))
+    where
+      go : Dec (y < b.best) → (least ≡ b.best) ⊎ Lacks (Single x y) m least
+      go (yes l) = let here : least ≡ y = omega (arith, is) in inr (rw here (lacks_one h n))
+      go (no l) = inl (omega (arith, is))
 
 -- ---- a line of uses
 
@@ -275,11 +272,10 @@ line_idle x y put n =
     let u = l.given in
     n (record { j = u.k; lt = u.lt; here = (subst (Has _) u.given.1 l.has_x, λ h. l.not (subst (Has _) (sym u.given.2) h)) })
 
--- a line from where its ends are known to be
-pub line_at : {x x' y y' n : ℕ} {put : Bool} {b r : Pass} {m m' : List ℕ} → x ≡ x' → y ≡ y' → Swept (Upto (Line x y) n) put b r m m'
-    → Swept (Upto (Line x' y') n) put b r m m'
-line_at {x'} {y} {n} {put} {b} {r} {m} {m'} p q s =
-    subst (λ z. Swept (Upto (Line x' z) n) put b r m m') q (subst (λ z. Swept (Upto (Line z y) n) put b r m m') p s)
+-- a line from where its ends are known to be, as long as it is known to be
+pub line_at : {x x' y y' n n' : ℕ} {put : Bool} {b r : Pass} {m m' : List ℕ} → x ≡ x' → y ≡ y' → n ≡ n' → Swept (Upto (Line x y) n) put b r m m'
+    → Swept (Upto (Line x' y') n') put b r m m'
+line_at e f l s = rw (← e, ← f, ← l) s
 
 -- one use, likewise
 pub one_at : {x x' y y' : ℕ} {put : Bool} {b r : Pass} {m m' : List ℕ} → x ≡ x' → y ≡ y' → Swept (Single x y) put b r m m'

@@ -4,16 +4,14 @@ use mathlib.Core.Logic.{inl, inr}
 use mathlib.Core.List.{List}
 use Prim.Native.Nat.{ℕ, ◌+◌, ◌*◌, ◌<◌, ◌≤◌}
 use native.Mathlib.Omega.{arith}
-use Rattle.positions.specs.declared.plan.Plan.{Plan}
 use Rattle.store.specs.declared.rows.Row.{Row}
 use Rattle.store.specs.Marking.{Has, SomeIn}
-use Rattle.positions.specs.Plans.{Planned, p_from, q_from}
+use Rattle.positions.specs.Plans.{Plan, Planned, p_from, q_from}
 use Rattle.store.specs.Reading.{row_of}
 use Rattle.positions.proofs.Places.{pair_lt, q_stretch, cut}
-use Rattle.uses.specs.declared.kinds.Kind.TheVariants.{Push, Pop}
 use Rattle.uses.specs.Ranges.{EachIn}
 use Rattle.uses.specs.Uses.{Single, Either, Upto}
-use Rattle.uses.specs.RuleUses.{StepUses, RowUses, CallUse, MovedFrom}
+use Rattle.uses.specs.RuleUses.{StepUses, PushUses, PopUses, CallUse, MovedFrom}
 
 -- two uses of one mark
 from_one : {x y y' q z w : ℕ} → Either (Single x y) (Single x y') q z w → z ≡ x
@@ -40,12 +38,12 @@ module _ (m : List ℕ) where
     steps_in_lem fit t a u hz = let r = fit u.k u.lt in some_at _ _ (pair_lt h r.g r.l) (from_one u.given.1) hz
 
     -- rule 5
-    pub pushes_in_lem : (rows : List ℕ) {n : ℕ} → EachIn s s.l s.f (row_of rows) n → (t a : ℕ) {q z y : ℕ} → RowUses Push s t a rows n q z y
+    pub pushes_in_lem : (rows : List ℕ) {n : ℕ} → EachIn s s.l s.f (row_of rows) n → (t a : ℕ) {q z y : ℕ} → PushUses s t a rows n q z y
         → Has m z → SomeIn m (p_from s t a) s.k
     pushes_in_lem rows fit t a u hz = let r = fit u.k u.lt in some_at _ _ (pair_lt h r.g r.l) (from_one u.given.1) hz
 
     -- rule 7
-    pub pops_in_lem : (rows : List ℕ) {n : ℕ} → EachIn s s.f s.l (row_of rows) n → (t a : ℕ) {q z y : ℕ} → RowUses Pop s t a rows n q z y
+    pub pops_in_lem : (rows : List ℕ) {n : ℕ} → EachIn s s.f s.l (row_of rows) n → (t a : ℕ) {q z y : ℕ} → PopUses s t a rows n q z y
         → Has m z → SomeIn m (q_from s t a) (s.f * s.k)
     pops_in_lem rows fit t a u hz =
         let r = fit u.k u.lt in

@@ -5,8 +5,7 @@ use Prim.Native.Nat.{ℕ, ◌+◌, ◌*◌, ◌/◌, ◌%◌, ◌<◌, ◌≤◌
 use native.Mathlib.Nat.{mod-lt, mul-le-mul, div-lt_iff_lt-mul, div-add-mod'}
 use native.Mathlib.Omega.{arith}
 use lib.Arith.{digits_lt, digits_div, digits_mod}
-use Rattle.positions.specs.declared.plan.Plan.{Plan}
-use Rattle.positions.specs.Plans.{Planned, p_from, q_from}
+use Rattle.positions.specs.Plans.{Plan, Planned, p_from, q_from}
 use Rattle.positions.proofs.Places.{p_stretch, q_stretches}
 use Rattle.uses.specs.Uses.{Uses, Upto}
 

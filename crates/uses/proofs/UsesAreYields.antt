@@ -10,10 +10,9 @@ use Rattle.model.specs.Positions.{pos, fact_at}
 use Rattle.model.specs.Memory.{Marked}
 use Rattle.model.specs.Claims.{Missing}
 use Rattle.model.proofs.Positions.{pos_lt, fact_at_pos, fact_at_stands}
-use Rattle.positions.specs.declared.plan.Plan.{Plan}
 use Rattle.store.specs.declared.rows.RowCounts.{RowCounts}
 use Rattle.store.specs.Marking.{Has}
-use Rattle.positions.specs.Plans.{plan_of}
+use Rattle.positions.specs.Plans.{Plan, plan_of}
 use Rattle.store.specs.Reading.{Reads}
 use Rattle.store.proofs.MarkLaws.{marked_has}
 use Rattle.positions.proofs.PlanIsModel.{planned, pos_p_stretch, pos_q_stretch}

@@ -1,17 +1,15 @@
 -- Every use of rules 2 to 7, by a table's plan s (01, "The rules"). There are n * k stretches of P facts: stretch i is that of thread i / k
 -- from pair i % k. The stretches of Q facts of a thread from one pair, one for each frame, are counted together, in the same order.
 use Rattle.std.specs.Prelude.{List, ℕ, ◌+◌, ◌*◌, ◌/◌, ◌%◌}
-use Rattle.positions.specs.declared.plan.Plan.{Plan}
 use Rattle.store.specs.declared.rows.RowCounts.{RowCounts}
-use Rattle.positions.specs.Plans.{p_from, q_from}
+use Rattle.positions.specs.Plans.{Plan, p_from, q_from}
 use Rattle.store.specs.Reading.{row_of}
-use Rattle.uses.specs.declared.kinds.Kind.TheVariants.{Push, Pop}
 use Rattle.uses.specs.Uses.{Uses, Either, Upto}
-use Rattle.uses.specs.RuleUses.{StepUses, RowUses, CallUse, MovedFrom}
+use Rattle.uses.specs.RuleUses.{StepUses, PushUses, PopUses, CallUse, MovedFrom}
 
 -- on the P facts of t from pair a: rules 5 and 2
 abbrev pub RestUses : Plan → RowCounts → List ℕ → ℕ → ℕ → Uses
-RestUses s n pushes t a = Either (RowUses Push s t a pushes n.pushes) (Upto (MovedFrom s t (p_from s t a)) s.g)
+RestUses s n pushes t a = Either (PushUses s t a pushes n.pushes) (Upto (MovedFrom s t (p_from s t a)) s.g)
 
 -- rule 4 too
 abbrev pub PUses : Plan → RowCounts → List ℕ → List ℕ → ℕ → ℕ → Uses
@@ -23,7 +21,7 @@ FrameUses s t a f = Either (Upto (CallUse s t (q_from s t a + f * s.k)) s.k) (Up
 
 -- on the Q facts of t from pair a: these for each frame, and rule 7
 abbrev pub QUses : Plan → RowCounts → List ℕ → ℕ → ℕ → Uses
-QUses s n pops t a = Either (Upto (FrameUses s t a) s.f) (RowUses Pop s t a pops n.pops)
+QUses s n pops t a = Either (Upto (FrameUses s t a) s.f) (PopUses s t a pops n.pops)
 
 -- on stretch i of the P facts
 abbrev pub PStretch : Plan → RowCounts → List ℕ → List ℕ → ℕ → Uses

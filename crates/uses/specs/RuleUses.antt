@@ -1,13 +1,9 @@
 -- The uses of each rule at positions (01, "The rules"), by a table's plan s. Facts stand in stretches: the P facts of a thread t from a pair a,
 -- and the Q facts of t from a with a frame, each stretch with a place for every pair where a fact may end. So uses are told stretch by stretch.
 use Rattle.std.specs.Prelude.{◌≡◌, List, ℕ, ◌+◌, ◌*◌}
-use Rattle.positions.specs.declared.plan.Plan.{Plan}
 use Rattle.store.specs.declared.rows.Row.{Row}
-use Rattle.positions.specs.Plans.{pair, p_from, q_from, g_at}
+use Rattle.positions.specs.Plans.{Plan, pair, p_from, q_from, g_at}
 use Rattle.store.specs.Reading.{row_of}
-use Rattle.uses.specs.declared.kinds.Kind.{Kind}
-use Rattle.uses.specs.declared.kinds.Kind.TheVariants.{Push, Pop}
-use Rattle.uses.specs.Ranges.{RowIn}
 use Rattle.uses.specs.Uses.{Uses, Single, Either, Upto, With, Under, Line}
 
 -- ---- rules 4, 5 and 7: the rules with a row, on the facts of t from pair a
@@ -49,28 +45,12 @@ StepRowUse s t a = OfRow t (StepUse s t a)
 abbrev pub StepUses : Plan → ℕ → ℕ → (ℕ → Row) → ℕ → Uses
 StepUses s t a = OfRows t (StepUse s t a)
 
--- rules 5 and 7: the bounds of a row's last two numbers, by its kind
-abbrev pub u_most : Kind → Plan → ℕ
-u_most Push s = s.l
-u_most Pop s = s.f
+-- rules 5 and 7: those of the first n rows of a list of bytes
+abbrev pub PushUses : Plan → ℕ → ℕ → List ℕ → ℕ → Uses
+PushUses s t a rows n = OfRows t (PushUse s t a) (row_of rows) n
 
-abbrev pub v_most : Kind → Plan → ℕ
-v_most Push s = s.f
-v_most Pop s = s.l
-
-abbrev pub KindIn : Kind → Plan → Row → Type 0
-KindIn kind s r = RowIn s (u_most kind s) (v_most kind s) r
-
-abbrev pub KindUse : Kind → Plan → ℕ → ℕ → Row → Uses
-KindUse Push s t a r = PushUse s t a r
-KindUse Pop s t a r = PopUse s t a r
-
-abbrev pub RowUse : Kind → Plan → ℕ → ℕ → Row → Uses
-RowUse kind s t a = OfRow t (KindUse kind s t a)
-
--- those of the first n rows of a list of bytes
-abbrev pub RowUses : Kind → Plan → ℕ → ℕ → List ℕ → ℕ → Uses
-RowUses kind s t a rows n = OfRows t (KindUse kind s t a) (row_of rows) n
+abbrev pub PopUses : Plan → ℕ → ℕ → List ℕ → ℕ → Uses
+PopUses s t a rows n = OfRows t (PopUse s t a) (row_of rows) n
 
 -- ---- rule 6
 

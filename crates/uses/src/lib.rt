@@ -1,6 +1,6 @@
-// Uses of the rules at positions of a memory: what they are (specs), that they are the rules' (proofs), one use and a line of uses. It is an inner
-// layer: its functions have `requires`.
+// Uses of the rules at positions of a memory: what they are (specs), that they are the rules' (proofs), one use and a line of uses, and a pass over
+// them by a plan. It is an inner layer: its functions have `requires`.
 #![tactic(auto)]
 
-pub mod kinds;
 pub mod lines;
+pub mod sweep;

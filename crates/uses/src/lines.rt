@@ -7,7 +7,9 @@ ghost use Rattle.uses.specs.Passing.{Swept};
 use store::marks::{has, lacks, put_mark};
 
 // What a pass carries. A pass that looks: the smallest position found lacking. A pass that puts: how many marks may still be put until there
-// are more than the budget. Where none is left, nothing is done any more.
+// are more than the budget. Where none is left, nothing is done any more. One struct for both kinds, `best` = w where none lacks, and `put` beside it: the
+// definitions `Puts`, `Looked` and `Swept` of specs/Passing speak of one Pass of these two numbers and of the flag, and the theorems of engine and
+// verdict cite them.
 #[derive(Clone, Copy)]
 pub struct Pass {
     pub best: usize,
@@ -19,33 +21,21 @@ pub fn one(mem: &mut [u8], put: bool, pass: Pass, x: usize, y: usize) -> Pass
     requires { (x < room mem.old) × (y < room mem.old) }
     ensures { Swept (Single x y) put pass result mem.old mem.new }
 {
-    if !has(mem, x) {
-        return pass;
-    }
-    if has(mem, y) {
-        return pass;
-    }
-    let best = pass.best;
-    let left = pass.left;
-    if left == 0 {
+    if !has(mem, x) || has(mem, y) || pass.left == 0 {
         return pass;
     }
     if put {
         put_mark(mem, y);
         // Each mark that is put is taken off: none is left exactly if one was put that the budget does not have, and then the answer is "over".
-        let rest = left - 1;
         return Pass {
-            best: best,
-            left: rest,
+            left: pass.left - 1,
+            ..pass
         };
     }
-    if y < best {
-        return Pass {
-            best: y,
-            left: left,
-        };
+    Pass {
+        best: y.min(pass.best),
+        ..pass
     }
-    pass
 }
 
 // A line of n uses: x + j gives y + j. Most lines lack nothing, and this is seen at once.
@@ -57,10 +47,8 @@ pub fn line(mem: &mut [u8], put: bool, pass: Pass, x: usize, y: usize, n: usize)
         return pass;
     }
     let mut sofar = pass;
-    let mut j: usize = 0;
-    while j < n {
+    for j in 0..n {
         sofar = one(mem, put, sofar, x + j, y + j);
-        j += 1;
     }
     sofar
 }

@@ -1,6 +1,0 @@
-// The kinds of rows that rules 5 and 7 go over.
-#[derive(Clone, Copy)]
-pub enum Kind {
-    Push,
-    Pop,
-}
