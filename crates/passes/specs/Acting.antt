@@ -1,7 +1,6 @@
 -- The guarantees that act on a thread's facts (01, "The rules", 2 and 3). Only contracts of private functions cite it.
 use Rattle.std.specs.Prelude.{◌≡◌, List, ℕ}
-use Rattle.positions.specs.declared.plan.Plan.{Plan}
-use Rattle.positions.specs.Plans.{g_at}
+use Rattle.positions.specs.Plans.{Plan, g_at}
 use Rattle.store.specs.Marking.{Has}
 
 -- thread e has the guarantee from g to g', and is not t

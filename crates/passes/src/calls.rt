@@ -1,38 +1,30 @@
 // Rule 6 on a stretch of Q facts of a thread t: those from one pair with one frame, which stand from y on. Each of them goes on with every P fact
 // that leads from where it ends.
 ghost use Rattle.std.specs.Prelude.{◌+◌, ◌<◌, ◌≤◌};
-ghost use Rattle.store.specs.Marking.{room};
-ghost use Rattle.positions.specs.Plans.{Planned};
 ghost use Rattle.uses.specs.Uses.{Upto};
-ghost use Rattle.uses.specs.Passing.{Swept};
+ghost use Rattle.uses.specs.Sweeping.{Did};
 ghost use Rattle.uses.specs.RuleUses.{CallUse};
 
-use positions::plan::{Plan, p_from};
-use store::marks::has;
-use uses::lines::{Pass, line};
+use uses::sweep::Sweep;
 
 // Rule 6 for the Q fact to pair b.
-fn call(s: Plan, t: usize, y: usize, b: usize, mem: &mut [u8], put: bool, pass: Pass) -> Pass
-    requires { Planned s × (t < s.n) × (b < s.k) × (y + s.k ≤ s.w) × (s.w ≤ room mem.old) }
-    ensures { Swept (CallUse s t y b) put pass result mem.old mem.new }
+fn call(sweep: &mut Sweep, t: usize, y: usize, b: usize)
+    requires { (t < sweep.old.plan.n) × (b < sweep.old.plan.k) × (y + sweep.old.plan.k ≤ sweep.old.plan.w) }
+    ensures { Did (CallUse sweep.old.plan t y b) sweep.old sweep.new }
 {
-    if !has(mem, y + b) {
-        return pass;
+    let s = sweep.plan;
+    if sweep.has(y + b) {
+        sweep.line(s.p_from(t, b), y, s.k);
     }
-    line(mem, put, pass, p_from(s, t, b), y, s.k)
 }
 
 // Rule 6 for each Q fact of the stretch.
-pub fn calls(s: Plan, t: usize, y: usize, mem: &mut [u8], put: bool, pass: Pass) -> Pass
-    requires { Planned s × (t < s.n) × (y + s.k ≤ s.w) × (s.w ≤ room mem.old) }
-    ensures { Swept (Upto (CallUse s t y) s.k) put pass result mem.old mem.new }
+pub fn calls(sweep: &mut Sweep, t: usize, y: usize)
+    requires { (t < sweep.old.plan.n) × (y + sweep.old.plan.k ≤ sweep.old.plan.w) }
+    ensures { Did (Upto (CallUse sweep.old.plan t y) sweep.old.plan.k) sweep.old sweep.new }
 {
-    let k = s.k;
-    let mut sofar = pass;
-    let mut b: usize = 0;
-    while b < k {
-        sofar = call(s, t, y, b, mem, put, sofar);
-        b += 1;
+    let s = sweep.plan;
+    for b in 0..s.k {
+        call(sweep, t, y, b);
     }
-    sofar
 }

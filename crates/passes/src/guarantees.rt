@@ -2,112 +2,79 @@
 // guarantee of another thread moves those that end at its first shared store. Guarantees that several threads have from one shared store to
 // another move the same facts, so they are taken together: the facts are gone over once.
 ghost use Rattle.std.specs.Prelude.{◌+◌, ◌*◌, ◌<◌, ◌≤◌};
-ghost use Rattle.store.specs.Marking.{room, Among, SomeIn, Is};
-ghost use Rattle.positions.specs.Plans.{Planned};
+ghost use Rattle.store.specs.Marking.{Among, SomeIn, Is};
 ghost use Rattle.uses.specs.Uses.{Upto};
-ghost use Rattle.uses.specs.Passing.{Swept};
+ghost use Rattle.uses.specs.Sweeping.{Did};
 ghost use Rattle.uses.specs.RuleUses.{MovedTo, MovedFrom};
 ghost use Rattle.passes.specs.Acting.{Acts};
 
-use positions::plan::{Plan, g_position};
-use store::marks::{has, next_mark};
-use uses::lines::{Pass, line};
+use store::marks::next_mark;
+use uses::sweep::Sweep;
 
 // Whether thread e has the guarantee from one shared store to another, and is not t.
-fn acts(s: Plan, t: usize, e: usize, from: usize, to: usize, mem: &[u8]) -> bool
-    requires { Planned s × (e < s.n) × (from < s.g) × (to < s.g) × (s.w ≤ room mem.now) }
-    ensures { Is (Acts s t mem.now from to e) result }
+fn acts(sweep: &Sweep, t: usize, e: usize, from: usize, to: usize) -> bool
+    requires { (e < sweep.now.plan.n) × (from < sweep.now.plan.g) × (to < sweep.now.plan.g) }
+    ensures { Is (Acts sweep.now.plan t sweep.now.mem.now from to e) result }
 {
-    if e == t {
-        return false;
-    }
-    has(mem, g_position(s, e, from, to))
+    e != t && sweep.has(sweep.plan.g_position(e, from, to))
 }
 
 // Whether a thread other than t has the guarantee.
-fn one_acts(s: Plan, t: usize, from: usize, to: usize, mem: &[u8]) -> bool
-    requires { Planned s × (from < s.g) × (to < s.g) × (s.w ≤ room mem.now) }
-    ensures { Is (Among (Acts s t mem.now from to) s.n) result }
+fn one_acts(sweep: &Sweep, t: usize, from: usize, to: usize) -> bool
+    requires { (from < sweep.now.plan.g) × (to < sweep.now.plan.g) }
+    ensures { Is (Among (Acts sweep.now.plan t sweep.now.mem.now from to) sweep.now.plan.n) result }
 {
-    let n = s.n;
-    let mut e: usize = 0;
-    while e < n {
-        if acts(s, t, e, from, to, mem) {
+    let s = sweep.plan;
+    for e in 0..s.n {
+        if acts(sweep, t, e, from, to) {
             return true;
         }
-        e += 1;
     }
     false
 }
 
 // Rule 2 or 3 for the guarantees from one shared store to another.
-fn guarantee(
-    s: Plan,
-    t: usize,
-    x: usize,
-    from: usize,
-    to: usize,
-    mem: &mut [u8],
-    put: bool,
-    pass: Pass,
-) -> Pass
-    requires { Planned s × (from < s.g) × (to < s.g) × (x + s.k ≤ s.w) × (s.w ≤ room mem.old) }
-    ensures { Swept (MovedTo s t x from to) put pass result mem.old mem.new }
+fn guarantee(sweep: &mut Sweep, t: usize, x: usize, from: usize, to: usize)
+    requires { (from < sweep.old.plan.g) × (to < sweep.old.plan.g) × (x + sweep.old.plan.k ≤ sweep.old.plan.w) }
+    ensures { Did (MovedTo sweep.old.plan t x from to) sweep.old sweep.new }
 {
-    if !one_acts(s, t, from, to, mem) {
-        return pass;
+    let s = sweep.plan;
+    if one_acts(sweep, t, from, to) {
+        sweep.line(x + from * s.l, x + to * s.l, s.l);
     }
-    let l = s.l;
-    line(mem, put, pass, x + from * l, x + to * l, l)
 }
 
 // Whether a fact of the stretch ends at shared store g. It stops at the first mark, which is near where there are many.
-fn ends_at(s: Plan, x: usize, g: usize, mem: &[u8]) -> bool
-    requires { Planned s × (g < s.g) × (x + s.k ≤ s.w) × (s.w ≤ room mem.now) }
-    ensures { Is (SomeIn mem.now (x + g * s.l) s.l) result }
+fn ends_at(sweep: &Sweep, x: usize, g: usize) -> bool
+    requires { (g < sweep.now.plan.g) × (x + sweep.now.plan.k ≤ sweep.now.plan.w) }
+    ensures { Is (SomeIn sweep.now.mem.now (x + g * sweep.now.plan.l) sweep.now.plan.l) result }
 {
+    let s = sweep.plan;
     let first = x + g * s.l;
-    let end = first + s.l;
-    next_mark(mem, first, end) != end
+    next_mark(sweep.mem, first, first + s.l).is_some()
 }
 
 // Rule 2 or 3 for the guarantees from one shared store. Where no fact of the stretch ends there, they move nothing.
-fn guarantees_from(
-    s: Plan,
-    t: usize,
-    x: usize,
-    from: usize,
-    mem: &mut [u8],
-    put: bool,
-    pass: Pass,
-) -> Pass
-    requires { Planned s × (from < s.g) × (x + s.k ≤ s.w) × (s.w ≤ room mem.old) }
-    ensures { Swept (MovedFrom s t x from) put pass result mem.old mem.new }
+fn guarantees_from(sweep: &mut Sweep, t: usize, x: usize, from: usize)
+    requires { (from < sweep.old.plan.g) × (x + sweep.old.plan.k ≤ sweep.old.plan.w) }
+    ensures { Did (MovedFrom sweep.old.plan t x from) sweep.old sweep.new }
 {
-    if !ends_at(s, x, from, mem) {
-        return pass;
+    if !ends_at(sweep, x, from) {
+        return;
     }
-    let g = s.g;
-    let mut sofar = pass;
-    let mut to: usize = 0;
-    while to < g {
-        sofar = guarantee(s, t, x, from, to, mem, put, sofar);
-        to += 1;
+    let s = sweep.plan;
+    for to in 0..s.g {
+        guarantee(sweep, t, x, from, to);
     }
-    sofar
 }
 
 // Rule 2 or 3 for the guarantees from each shared store: rule 2 if the stretch is one of P facts, else rule 3.
-pub fn guarantees(s: Plan, t: usize, x: usize, mem: &mut [u8], put: bool, pass: Pass) -> Pass
-    requires { Planned s × (x + s.k ≤ s.w) × (s.w ≤ room mem.old) }
-    ensures { Swept (Upto (MovedFrom s t x) s.g) put pass result mem.old mem.new }
+pub fn guarantees(sweep: &mut Sweep, t: usize, x: usize)
+    requires { x + sweep.old.plan.k ≤ sweep.old.plan.w }
+    ensures { Did (Upto (MovedFrom sweep.old.plan t x) sweep.old.plan.g) sweep.old sweep.new }
 {
-    let g = s.g;
-    let mut sofar = pass;
-    let mut from: usize = 0;
-    while from < g {
-        sofar = guarantees_from(s, t, x, from, mem, put, sofar);
-        from += 1;
+    let s = sweep.plan;
+    for from in 0..s.g {
+        guarantees_from(sweep, t, x, from);
     }
-    sofar
 }

@@ -1,91 +1,90 @@
-// Rules 5 and 7, the rules with a push or a pop row, on the facts of a thread t from a pair a. One loop goes over the rows of a kind.
-ghost use Rattle.std.specs.Prelude.{◌<◌, ◌≤◌};
-ghost use Rattle.store.specs.Marking.{room};
-ghost use Rattle.positions.specs.Plans.{Planned};
+// Rules 5 and 7, the rules with a push or a pop row, on the facts of a thread t from a pair a. One loop goes over the rows of either.
+ghost use Rattle.std.specs.Prelude.{ℕ, ◌<◌, ◌≤◌};
+ghost use Rattle.store.specs.declared.rows.Row.{Row};
+ghost use Rattle.store.specs.Reading.{row_of};
+ghost use Rattle.positions.specs.Plans.{Plan};
 ghost use Rattle.uses.specs.Ranges.{RowIn, RowsIn};
-ghost use Rattle.uses.specs.Passing.{Swept};
-ghost use Rattle.uses.specs.RuleUses.{PushUse, PopUse, u_most, v_most, KindIn, RowUse, RowUses};
+ghost use Rattle.uses.specs.Uses.{Uses};
+ghost use Rattle.uses.specs.Sweeping.{Did};
+ghost use Rattle.uses.specs.RuleUses.{PushUse, PopUse, OfRow, OfRows};
 
-use positions::plan::{Plan, p_position, pair_of, q_position};
 use store::rows::{Row, row_at};
-use uses::kinds::Kind;
-use uses::lines::{Pass, one};
+use uses::sweep::Sweep;
 
-// Rule 5 for one row: the P fact that ends at its place gives the Q fact of the call and the P fact of the callee's start.
-fn push(s: Plan, t: usize, a: usize, r: Row, mem: &mut [u8], put: bool, pass: Pass) -> Pass
-    requires { Planned s × (t < s.n) × (a < s.k) × RowIn s s.l s.f r × (s.w ≤ room mem.old) }
-    ensures { Swept (PushUse s t a r) put pass result mem.old mem.new }
-{
-    let g = r.g as usize;
-    let l = r.l as usize;
-    let u = r.u as usize;
-    let v = r.v as usize;
-    let d = pair_of(s, g, u);
-    let x = p_position(s, t, a, pair_of(s, g, l));
-    let y = q_position(s, t, a, v, d);
-    let z = p_position(s, t, d, d);
-    let pushed = one(mem, put, pass, x, y);
-    one(mem, put, pushed, x, z)
+// A rule with a row: its uses of a row, and the bounds of the row's last two numbers.
+pub trait RowRule {
+    ghost uses: { Plan → ℕ → ℕ → Row → Uses };
+
+    ghost u_most: { Plan → ℕ };
+
+    ghost v_most: { Plan → ℕ };
+
+    // The rule for one row.
+    fn row(sweep: &mut Sweep, t: usize, a: usize, r: Row)
+        requires { (t < sweep.old.plan.n) × (a < sweep.old.plan.k) × RowIn sweep.old.plan (u_most sweep.old.plan) (v_most sweep.old.plan) r }
+        ensures { Did (uses sweep.old.plan t a r) sweep.old sweep.new };
 }
 
-// Rule 7 for one row: the Q fact with its frame that ends at its place gives the P fact after the return.
-fn pop(s: Plan, t: usize, a: usize, r: Row, mem: &mut [u8], put: bool, pass: Pass) -> Pass
-    requires { Planned s × (t < s.n) × (a < s.k) × RowIn s s.f s.l r × (s.w ≤ room mem.old) }
-    ensures { Swept (PopUse s t a r) put pass result mem.old mem.new }
-{
-    let g = r.g as usize;
-    let l = r.l as usize;
-    let u = r.u as usize;
-    let v = r.v as usize;
-    let x = q_position(s, t, a, u, pair_of(s, g, l));
-    let y = p_position(s, t, a, pair_of(s, g, v));
-    one(mem, put, pass, x, y)
-}
+// The rule of push rows, rule 5.
+pub struct Push;
 
-// The rule for one row of a kind, if it is a row of t.
-fn row(
-    kind: Kind,
-    s: Plan,
-    t: usize,
-    a: usize,
-    r: Row,
-    mem: &mut [u8],
-    put: bool,
-    pass: Pass,
-) -> Pass
-    requires { Planned s × (t < s.n) × (a < s.k) × KindIn kind s r × (s.w ≤ room mem.old) }
-    ensures { Swept (RowUse kind s t a r) put pass result mem.old mem.new }
-{
-    if r.t as usize != t {
-        return pass;
-    }
-    match kind {
-        Kind::Push => return push(s, t, a, r, mem, put, pass),
-        Kind::Pop => return pop(s, t, a, r, mem, put, pass),
+// The rule of pop rows, rule 7.
+pub struct Pop;
+
+impl RowRule for Push {
+    ghost uses = { PushUse };
+
+    ghost u_most = { λ s. s.l };
+
+    ghost v_most = { λ s. s.f };
+
+    // The P fact that ends at the row's place gives the Q fact of the call and the P fact of the callee's start.
+    fn row(sweep: &mut Sweep, t: usize, a: usize, r: Row) {
+        let s = sweep.plan;
+        let g = usize::from(r.g);
+        let callee = s.pair(g, usize::from(r.u));
+        let x = s.p_position(t, a, s.pair(g, usize::from(r.l)));
+        let y = s.q_position(t, a, usize::from(r.v), callee);
+        let z = s.p_position(t, callee, callee);
+        sweep.one(x, y);
+        sweep.one(x, z);
     }
 }
 
-// The rule for the first n rows of a kind.
-pub fn rows_of(
-    kind: Kind,
-    s: Plan,
-    t: usize,
-    a: usize,
-    rows: &[u8],
-    n: usize,
-    mem: &mut [u8],
-    put: bool,
-    pass: Pass,
-) -> Pass
-    requires { Planned s × (t < s.n) × (a < s.k) × RowsIn s (u_most kind s) (v_most kind s) rows.now n × (s.w ≤ room mem.old) }
-    ensures { Swept (RowUses kind s t a rows.now n) put pass result mem.old mem.new }
-{
-    let mut sofar = pass;
-    let mut i: usize = 0;
-    while i < n {
-        let r = row_at(rows, i);
-        sofar = row(kind, s, t, a, r, mem, put, sofar);
-        i += 1;
+impl RowRule for Pop {
+    ghost uses = { PopUse };
+
+    ghost u_most = { λ s. s.f };
+
+    ghost v_most = { λ s. s.l };
+
+    // The Q fact with the row's frame that ends at its place gives the P fact after the return.
+    fn row(sweep: &mut Sweep, t: usize, a: usize, r: Row) {
+        let s = sweep.plan;
+        let g = usize::from(r.g);
+        let x = s.q_position(t, a, usize::from(r.u), s.pair(g, usize::from(r.l)));
+        let y = s.p_position(t, a, s.pair(g, usize::from(r.v)));
+        sweep.one(x, y);
     }
-    sofar
+}
+
+// The rule for one row, if it is a row of t.
+fn row<R: RowRule>(sweep: &mut Sweep, t: usize, a: usize, r: Row)
+    requires { (t < sweep.old.plan.n) × (a < sweep.old.plan.k) × RowIn sweep.old.plan (R.u_most sweep.old.plan) (R.v_most sweep.old.plan) r }
+    ensures { Did (OfRow t (R.uses sweep.old.plan t a) r) sweep.old sweep.new }
+{
+    if usize::from(r.t) == t {
+        R::row(sweep, t, a, r);
+    }
+}
+
+// The rule for the first n rows of a list of bytes.
+pub fn rows_of<R: RowRule>(sweep: &mut Sweep, t: usize, a: usize, rows: &[u8], n: usize)
+    requires { (t < sweep.old.plan.n) × (a < sweep.old.plan.k)
+        × RowsIn sweep.old.plan (R.u_most sweep.old.plan) (R.v_most sweep.old.plan) rows.now n }
+    ensures { Did (OfRows t (R.uses sweep.old.plan t a) (row_of rows.now) n) sweep.old sweep.new }
+{
+    for i in 0..n {
+        row::<R>(sweep, t, a, row_at(rows, i));
+    }
 }

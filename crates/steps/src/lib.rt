@@ -2,65 +2,48 @@
 // functions have `requires`.
 #![tactic(auto)]
 
-ghost use Rattle.std.specs.Prelude.{◌<◌, ◌≤◌, length};
-ghost use Rattle.store.specs.Marking.{room};
-ghost use Rattle.positions.specs.Plans.{Planned};
+ghost use Rattle.std.specs.Prelude.{◌<◌, length};
 ghost use Rattle.store.specs.Reading.{nth};
 ghost use Rattle.uses.specs.Ranges.{RowIn, EachIn};
-ghost use Rattle.uses.specs.Passing.{Swept};
+ghost use Rattle.uses.specs.Sweeping.{Did};
 ghost use Rattle.uses.specs.RuleUses.{StepUse, StepRowUse, StepUses};
 
-use positions::plan::{Plan, g_position, p_position, pair_of};
 use store::rows::Row;
-use uses::lines::{Pass, one};
+use uses::sweep::Sweep;
 
-// Rule 4 for one row: the P fact that ends at its place gives the P fact to where it leads, and its guarantee.
-fn step(s: Plan, t: usize, a: usize, r: Row, mem: &mut [u8], put: bool, pass: Pass) -> Pass
-    requires { Planned s × (t < s.n) × (a < s.k) × RowIn s s.g s.l r × (s.w ≤ room mem.old) }
-    ensures { Swept (StepUse s t a r) put pass result mem.old mem.new }
+// Rule 4 for one row: the P fact that ends at the row's place gives the P fact to where it leads, and its guarantee.
+fn step(sweep: &mut Sweep, t: usize, a: usize, r: Row)
+    requires { (t < sweep.old.plan.n) × (a < sweep.old.plan.k) × RowIn sweep.old.plan sweep.old.plan.g sweep.old.plan.l r }
+    ensures { Did (StepUse sweep.old.plan t a r) sweep.old sweep.new }
 {
-    let g = r.g as usize;
-    let l = r.l as usize;
-    let u = r.u as usize;
-    let v = r.v as usize;
-    let x = p_position(s, t, a, pair_of(s, g, l));
-    let y = p_position(s, t, a, pair_of(s, u, v));
-    let z = g_position(s, t, g, u);
-    let stepped = one(mem, put, pass, x, y);
-    one(mem, put, stepped, x, z)
+    let s = sweep.plan;
+    let g = usize::from(r.g);
+    let u = usize::from(r.u);
+    let x = s.p_position(t, a, s.pair(g, usize::from(r.l)));
+    let y = s.p_position(t, a, s.pair(u, usize::from(r.v)));
+    let z = s.g_position(t, g, u);
+    sweep.one(x, y);
+    sweep.one(x, z);
 }
 
 // Rule 4 for one row, if it is a row of t.
-fn step_row(s: Plan, t: usize, a: usize, r: Row, mem: &mut [u8], put: bool, pass: Pass) -> Pass
-    requires { Planned s × (t < s.n) × (a < s.k) × RowIn s s.g s.l r × (s.w ≤ room mem.old) }
-    ensures { Swept (StepRowUse s t a r) put pass result mem.old mem.new }
+fn step_row(sweep: &mut Sweep, t: usize, a: usize, r: Row)
+    requires { (t < sweep.old.plan.n) × (a < sweep.old.plan.k) × RowIn sweep.old.plan sweep.old.plan.g sweep.old.plan.l r }
+    ensures { Did (StepRowUse sweep.old.plan t a r) sweep.old sweep.new }
 {
-    if r.t as usize != t {
-        return pass;
+    if usize::from(r.t) == t {
+        step(sweep, t, a, r);
     }
-    step(s, t, a, r, mem, put, pass)
 }
 
-// Rule 4 for each row of a list, if it is a row of t.
-pub fn walk(
-    rows: &[Row],
-    s: Plan,
-    t: usize,
-    a: usize,
-    mem: &mut [u8],
-    put: bool,
-    pass: Pass,
-) -> Pass
-    requires { Planned s × (t < s.n) × (a < s.k) × EachIn s s.g s.l (nth rows.now) (length rows.now) × (s.w ≤ room mem.old) }
-    ensures { Swept (StepUses s t a (nth rows.now) (length rows.now))
-        put pass result mem.old mem.new }
+// Rule 4 for each row of a list, if it is a row of t. A loop of its own beside `passes::pushes_and_pops::rows_of`: document 01 asks that the rules walk
+// the step rows as a list, and one loop over a list and over bytes would take where a row comes from as one more trait, no plainer than this `for`.
+pub fn walk(sweep: &mut Sweep, t: usize, a: usize, rows: &[Row])
+    requires { (t < sweep.old.plan.n) × (a < sweep.old.plan.k)
+        × EachIn sweep.old.plan sweep.old.plan.g sweep.old.plan.l (nth rows.now) (length rows.now) }
+    ensures { Did (StepUses sweep.old.plan t a (nth rows.now) (length rows.now)) sweep.old sweep.new }
 {
-    let mut sofar = pass;
-    let mut i: usize = 0;
-    while i < rows.len() {
-        let r = rows[i];
-        sofar = step_row(s, t, a, r, mem, put, sofar);
-        i += 1;
+    for row in rows {
+        step_row(sweep, t, a, *row);
     }
-    sofar
 }

@@ -1,10 +1,10 @@
 -- The Q facts to the first b pairs are done.
-use native.Mathlib.Omega.{arith}
-use Rattle.uses.proofs.PassLaws.{upto_none, upto_next}
+use Rattle.uses.specs.RuleUses.{CallUse}
+use Rattle.uses.proofs.SweepLaws.{did_none, did_next}
 use Rattle.passes.proofs.calls.calls.Goals as goal
 
 pub loop-b-init : goal.loop-b-init
-loop-b-init c = (omega arith, upto_none _)
+loop-b-init c = did_none _
 
 pub loop-b-preserved : goal.loop-b-preserved
-loop-b-preserved c = (omega arith, upto_next _ c.loop-b.invariant.1 c.call-sofar.ensures)
+loop-b-preserved c = did_next (λ s. CallUse s c.args.t c.args.y) c.loop-b.invariant c.call.ensures

@@ -3,4 +3,4 @@ use Rattle.passes.proofs.GuaranteeLaws.{next_some}
 use Rattle.passes.proofs.guarantees.ends_at.Goals as goal
 
 pub returns : goal.returns
-returns c = next_some _ c.next_mark.ensures
+returns c = rw (c.is_some.ensures, ← c.s.view_is) (next_some _ _ _ c.next_mark.result c.next_mark.ensures)

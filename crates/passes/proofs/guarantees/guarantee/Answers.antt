@@ -1,27 +1,22 @@
 -- Where one of the guarantees acts, a line of uses from the facts that end at their first shared store.
-use Prim.Native.Nat.{◌+◌, ◌*◌, ◌≤◌}
-use native.Mathlib.Omega.{arith}
+use mathlib.Core.Path.{refl, ap}
+use Rattle.positions.specs.Plans.{Plan}
 use Rattle.store.proofs.MarkLaws.{is_true, is_false}
-use Rattle.positions.proofs.Places.{cut}
+use Rattle.uses.proofs.SweepLaws.{did_by}
 use Rattle.passes.proofs.GuaranteeLaws.{moved_any, moved_nobody}
 use Rattle.passes.proofs.guarantees.guarantee.Goals as goal
 
-pub returns-then-not-one_acts : goal.returns-then-not-one_acts
-returns-then-not-one_acts c =
+pub returns-then-one_acts : goal.returns-then-one_acts
+returns-then-one_acts c =
     let a = c.args in
-    moved_nobody a.s a.t a.x a.from a.to _
-    (is_false _ c.one_acts.ensures c.if-not-one_acts.true)
+    let l_is = ap (λ (p : Plan). p.l) c.s.view_is in
+    did_by c.line.ensures
+    (moved_any a.sweep.now.plan a.t a.x a.from a.to (is_true _ c.one_acts.ensures c.if-one_acts.true) (rw l_is at c.line.ensures.swept))
 
-pub line-requires : goal.line-requires
-line-requires c =
-    let ends : let a = c.args in let s = a.s in (a.from * s.l + s.l ≤ s.k) × (a.to * s.l + s.l ≤ s.k) × (s.k ≤ 256) × (s.w ≤ 2360320) = let (h, from, to, stretch, room) = c.requires in (cut h _ from, cut h _ to, h.k_max, h.w_max) in
-    let (h, from, to, stretch, room) = c.requires in
-    let e = ends in
-    (omega arith, omega arith)
-
-pub returns : goal.returns
-returns c =
+pub returns-else-one_acts : goal.returns-else-one_acts
+returns-else-one_acts c =
     let a = c.args in
-    moved_any a.s a.t a.x a.from a.to
-    (is_true _ c.one_acts.ensures c.if-not-one_acts.false)
-    c.line.ensures
+    record {
+      kept = record { name = refl; plan = refl; put = refl };
+      swept = moved_nobody a.sweep.now.plan a.t a.x a.from a.to _ (is_false _ c.one_acts.ensures c.if-one_acts.false);
+    }

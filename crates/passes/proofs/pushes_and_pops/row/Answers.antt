@@ -1,21 +1,12 @@
--- The rule of each kind, if the row is the thread's.
-use mathlib.Core.Path.{sym}
-use Rattle.uses.specs.declared.kinds.Kind.{Kind}
-use Rattle.uses.specs.RuleUses.{KindUse}
-use Rattle.uses.proofs.PassLaws.{swept_of, swept_under, swept_never}
+-- The rule, if the row is the thread's.
+use mathlib.Core.Path.{refl, sym, ◌∙◌}
+use Rattle.uses.proofs.PassLaws.{swept_under, swept_never}
+use Rattle.uses.proofs.SweepLaws.{did_by}
 use Rattle.passes.proofs.pushes_and_pops.row.Goals as goal
 
-pub returns-then-r-t : goal.returns-then-r-t
-returns-then-r-t c = swept_never _ c.if-r-t.true
+pub returns-then-from-t : goal.returns-then-from-t
+returns-then-from-t g c = did_by c.row.ensures (swept_under (sym c.from.ensures ∙ c.if-from-t.true) c.row.ensures.swept)
 
-pub returns-in-Push : goal.returns-in-Push
-returns-in-Push c =
-    let a = c.args in
-    swept_under c.if-r-t.false
-    (swept_of (λ (k : Kind). KindUse k a.s a.t a.a a.r) (sym c.in-Push.is) c.push.ensures)
-
-pub returns-in-Pop : goal.returns-in-Pop
-returns-in-Pop c =
-    let a = c.args in
-    swept_under c.if-r-t.false
-    (swept_of (λ (k : Kind). KindUse k a.s a.t a.a a.r) (sym c.in-Pop.is) c.pop.ensures)
+pub returns-else-from-t : goal.returns-else-from-t
+returns-else-from-t g c =
+    record { kept = record { name = refl; plan = refl; put = refl }; swept = swept_never _ (λ e. c.if-from-t.false (c.from.ensures ∙ e)) }
