@@ -6,13 +6,12 @@ use mathlib.Core.Logic.{◌⊎◌, inl, inr}
 use mathlib.Core.List.{List}
 use Prim.Native.Nat.{ℕ, ◌<◌, ◌≤◌}
 use native.Mathlib.Omega.{arith}
-use Rattle.store.specs.Marking.{room}
 use Rattle.uses.specs.declared.lines.Pass.{Pass}
 use Rattle.uses.specs.Uses.{Uses, Either, Lacks}
 use Rattle.uses.specs.Passing.{Swept, looks, puts}
 use Rattle.engine.specs.Turns.{Covered, looking, putting}
 use Rattle.engine.specs.Working.{Worked, looked, settled}
-use Rattle.uses.proofs.PassLaws.{puts_idle, puts_then, puts_to, puts_le, puts_none, puts_room, looked_idle, looked_then, either, lacks_to, first_to}
+use Rattle.uses.proofs.PassLaws.{puts_idle, puts_then, puts_to, puts_le, puts_none, looked_idle, looked_then, either, lacks_to, first_to}
 
 -- a pass leaves no more than there were
 pub swept_fewer : {A : Uses} {put : Bool} {b r : Pass} {m m' : List ℕ} → Swept A put b r m m' → r.left ≤ b.left
@@ -20,10 +19,6 @@ swept_fewer (looks k) = omega (arith, k.left)
 swept_fewer (puts p done) = puts_le p
 
 module _ {All D : Uses} where
-  pub covered_room : {put : Bool} {b p : Pass} {before : ℕ} {m₀ m : List ℕ} → Covered All D put b before p m₀ m → room m ≡ room m₀
-  covered_room (looking k e) = refl
-  covered_room (putting q le c) = puts_room q
-
   pub covered_fewer : {put : Bool} {b p : Pass} {before : ℕ} {m₀ m : List ℕ} → Covered All D put b before p m₀ m → p.left ≤ before
   covered_fewer (looking k e) = omega (arith, e)
   covered_fewer (putting q le c) = le

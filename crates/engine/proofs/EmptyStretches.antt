@@ -6,10 +6,9 @@ use mathlib.Core.Logic.{inl, inr}
 use mathlib.Core.List.{List}
 use Prim.Native.Nat.{ℕ, ◌+◌, ◌*◌, ◌/◌, ◌%◌, ◌<◌}
 use native.Mathlib.Omega.{arith}
-use Rattle.positions.specs.declared.plan.Plan.{Plan}
 use Rattle.store.specs.declared.rows.RowCounts.{RowCounts}
 use Rattle.store.specs.Marking.{Has, SomeIn}
-use Rattle.positions.specs.Plans.{Planned, p_from, q_from}
+use Rattle.positions.specs.Plans.{Plan, Planned, p_from, q_from}
 use Rattle.positions.proofs.Places.{q_stretch}
 use Rattle.uses.specs.declared.lines.Pass.{Pass}
 use Rattle.uses.specs.Ranges.{RowsIn}

@@ -4,17 +4,13 @@ use mathlib.Core.List.{List}
 use Prim.Native.Nat.{ℕ, ◌<◌}
 use native.Mathlib.Omega.{arith}
 use Rattle.files.specs.Table.{Table, Sound}
-use Rattle.positions.specs.declared.plan.Plan.{Plan}
 use Rattle.store.specs.declared.rows.RowCounts.{RowCounts}
-use Rattle.positions.specs.Plans.{Planned, plan_of}
+use Rattle.positions.specs.Plans.{Plan, plan_of}
 use Rattle.positions.proofs.PlanIsModel.{planned}
 use Rattle.engine.specs.Given.{RowsOf, StartOf}
 use Rattle.engine.specs.InRange.{Given, StartIn}
 
 module _ {T : Table} {s : Plan} (sound : Sound T) (plan : s ≡ plan_of T) where
-  pub plan_given : Planned s
-  plan_given = subst Planned (sym plan) (planned T sound)
-
   pub start_given : {g₀ : ℕ} {locals : List ℕ} → StartOf T g₀ locals → StartIn s g₀ locals
   start_given {g₀} {locals} first =
       subst (λ (s : Plan). StartIn s g₀ locals) (sym plan)

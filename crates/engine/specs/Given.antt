@@ -2,9 +2,8 @@
 use Rattle.std.specs.Prelude.{◌≡◌, List, ℕ, ◌*◌, ◌<◌, ◌≤◌, get_or, length}
 use Rattle.files.specs.Table.{Table, Sound}
 use Rattle.model.specs.Taken.{begins}
-use Rattle.positions.specs.declared.plan.Plan.{Plan}
 use Rattle.store.specs.declared.rows.RowCounts.{RowCounts}
-use Rattle.positions.specs.Plans.{plan_of}
+use Rattle.positions.specs.Plans.{Plan, plan_of}
 use Rattle.store.specs.Reading.{Reads}
 
 -- the plan and the rows are a sound table's

@@ -1,9 +1,8 @@
 -- What is given is in range. Of a sound table it is so, and the engine's own functions ask for no more.
 use Rattle.std.specs.Prelude.{List, ℕ, ◌<◌, ◌≤◌, get_or, length}
 use Rattle.files.specs.Table.{most_steps}
-use Rattle.positions.specs.declared.plan.Plan.{Plan}
 use Rattle.store.specs.declared.rows.RowCounts.{RowCounts}
-use Rattle.positions.specs.Plans.{Planned}
+use Rattle.positions.specs.Plans.{Plan, Planned}
 use Rattle.uses.specs.Ranges.{RowsIn}
 
 -- a step row ends in g', l'; a push row in l', f; a pop row in f, l'

@@ -1,7 +1,6 @@
 -- Where the start facts stand (01, "The rules", rule 1: "for each t, P from its initial pair to that same pair").
 use Rattle.std.specs.Prelude.{List, ℕ, ◌+◌, ◌*◌, get_or}
-use Rattle.positions.specs.declared.plan.Plan.{Plan}
-use Rattle.positions.specs.Plans.{pair, p_at}
+use Rattle.positions.specs.Plans.{Plan, pair, p_at}
 
 -- the start fact of t, whose initial stores are g and a number of locals
 abbrev pub start_at : Plan → ℕ → List ℕ → ℕ → ℕ

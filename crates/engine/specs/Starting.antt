@@ -1,6 +1,6 @@
 -- The memory with the start facts (01, "The rules", rule 1): one put for each thread.
 use Rattle.std.specs.Prelude.{List, ℕ, zero, suc}
-use Rattle.positions.specs.declared.plan.Plan.{Plan}
+use Rattle.positions.specs.Plans.{Plan}
 use Rattle.store.specs.Marking.{marked}
 use Rattle.engine.specs.StartFacts.{start_at}
 

@@ -1,15 +1,17 @@
 -- Turns of the stretches of P facts, in rounds. Only the engine's own functions cite this file.
-use Rattle.std.specs.Prelude.{◌≡◌, Bool, true, false, List, ℕ, ◌+◌, ◌*◌, ◌-◌, ◌/◌, ◌%◌, ◌<◌, ◌≤◌}
-use Rattle.positions.specs.declared.plan.Plan.{Plan}
+use Rattle.std.specs.Prelude.{◌≡◌, Bool, true, false, List, Option, Some, None, ℕ, ◌+◌, ◌*◌, ◌-◌, ◌/◌, ◌%◌, ◌<◌, ◌≤◌}
+use Rattle.positions.specs.Plans.{Plan}
 use Rattle.store.specs.declared.rows.RowCounts.{RowCounts}
 use Rattle.store.specs.Marking.{SomeIn}
 use Rattle.store.specs.Reading.{row_of}
 use Rattle.uses.specs.declared.lines.Pass.{Pass}
 use Rattle.engine.specs.declared.turns.Turn.{Turn}
-use Rattle.uses.specs.Uses.{Uses, Either, Under, Upto, Lacks}
+use Rattle.engine.specs.InRange.{Given}
+use Rattle.engine.specs.Working.{Worked}
+use Rattle.uses.specs.Uses.{Upto, Lacks}
 use Rattle.uses.specs.RuleUses.{StepUses}
 use Rattle.uses.specs.Passing.{Puts, Looked, Swept}
-use Rattle.uses.specs.AllUses.{PStretch, AllQUses, AllUses}
+use Rattle.uses.specs.AllUses.{PStretch, AllUses}
 
 -- how many stretches of P facts there are
 abbrev pub stretch_count : Plan → ℕ
@@ -19,12 +21,16 @@ stretch_count s = s.n * s.k
 abbrev pub NoneBetween : ℕ → ℕ → List ℕ → ℕ → ℕ → Type 0
 NoneBetween p k m i j = (stretch : ℕ) → i ≤ stretch → stretch < j → ¬ SomeIn m (p + stretch * k) k
 
--- the next stretch from i on that has a mark, or the number of stretches if none has
-pub record NextStretch (s : Plan) (m : List ℕ) (i r : ℕ) : Type 0 where
+-- stretch r is one from i on, or the number of stretches, and none before it from i on has a mark
+pub record Skipped (s : Plan) (m : List ℕ) (i r : ℕ) : Type 0 where
   pub from : i ≤ r
   pub upto : r ≤ stretch_count s
   pub none : NoneBetween s.p s.k m i r
-  pub here : r < stretch_count s → SomeIn m (s.p + r * s.k) s.k
+
+-- the next stretch from i on that has a mark, or that none has
+abbrev pub NextStretch : Plan → List ℕ → ℕ → Option ℕ → Type 0
+NextStretch s m i (Some r) = Skipped s m i r × (r < stretch_count s) × SomeIn m (s.p + r * s.k) s.k
+NextStretch s m i None = Skipped s m i (stretch_count s)
 
 -- Work under way: it carried b at first and p now. D are the uses that this round went over; `before` is how many marks could still be put when
 -- the round began. If none was put since, none of D lacks.
@@ -33,33 +39,48 @@ pub data Covered (All D : ℕ → ℕ → ℕ → Type 0) : Bool → Pass → �
   putting : {b p : Pass} {before : ℕ} {m₀ m : List ℕ} → Puts All b p m₀ m → p.left ≤ before
       → (0 < p.left → p.left ≡ before → (y : ℕ) → ¬ Lacks D m y) → Covered All D true b before p m₀ m
 
--- the uses behind a turn: on the stretches of P facts before it, and after the last stretch on all Q facts too
-abbrev pub Behind : Plan → RowCounts → List ℕ → List ℕ → List ℕ → ℕ → Uses
-Behind s n st pu po stretch = Either (Upto (PStretch s n st pu) stretch) (Under (stretch ≡ stretch_count s) (AllQUses s n po))
-
--- whose turn it is; a turn past the last stretch ends the work
-pub record Turning (s : Plan) (n : RowCounts) (st pu po : List ℕ) (put : Bool) (b : Pass) (turn : Turn) (m₀ m : List ℕ) : Type 0 where
-  pub covered : Covered (AllUses s n st pu po) (Behind s n st pu po turn.stretch) put b turn.before turn.pass m₀ m
-  pub within : turn.stretch ≤ stretch_count s
-  pub last : turn.stretch ≡ stretch_count s → turn.pass.left ≡ turn.before
-
--- the last turn of a round: rules 2, 4 and 5 were gone over on every stretch
-pub record StretchesDone (s : Plan) (n : RowCounts) (st pu po : List ℕ) (put : Bool) (b : Pass) (turn : Turn) (p : Pass) (m₀ m : List ℕ)
+-- Whose turn it is: this round went over the stretches of P facts before it. The work carries p.
+pub record Turning (s : Plan) (n : RowCounts) (st pu po : List ℕ) (put : Bool) (b : Pass) (turn : Turn) (p : Pass) (m₀ m : List ℕ)
     : Type 0 where
+  pub covered : Covered (AllUses s n st pu po) (Upto (PStretch s n st pu) turn.stretch) put b turn.before p m₀ m
+  pub within : turn.stretch < stretch_count s
+
+-- the work goes on with a turn, or it has ended
+abbrev pub Next : Plan → RowCounts → List ℕ → List ℕ → List ℕ → Bool → Pass → Option Turn → Pass → List ℕ → List ℕ → Type 0
+Next s n st pu po put b (Some turn) p m₀ m = Turning s n st pu po put b turn p m₀ m
+Next s n st pu po put b None p m₀ m = Worked (AllUses s n st pu po) put b p m₀ m
+
+-- the last turn of a round, which carried `had` at first: rules 2, 4 and 5 were gone over on every stretch
+pub record StretchesDone (s : Plan) (n : RowCounts) (st pu po : List ℕ) (put : Bool) (b : Pass) (turn : Turn) (had p : Pass)
+    (m₀ m : List ℕ) : Type 0 where
   pub covered : Covered (AllUses s n st pu po) (Upto (PStretch s n st pu) (stretch_count s)) put b turn.before p m₀ m
   pub stretch : turn.stretch < stretch_count s
-  pub fewer : p.left ≤ turn.pass.left
+  pub fewer : p.left ≤ had.left
 
--- a number that falls with each turn: with each mark, with each stretch, and with each round
-abbrev pub turns_left : Plan → Turn → ℕ
-turns_left s turn = (turn.pass.left + turn.before) * (stretch_count s + 1) + (stretch_count s - turn.stretch)
+-- a number that falls with each turn: with each mark, with each stretch, and with each round, and to 0 where the work ends
+abbrev pub turns_left : Plan → Option Turn → ℕ → ℕ
+turns_left s None left = 0
+turns_left s (Some turn) left = (left + turn.before) * (stretch_count s + 1) + (stretch_count s - turn.stretch)
 
 -- rule 4 on the turn's stretch, from m to m₁
-abbrev pub Stepped : Plan → RowCounts → List ℕ → Bool → Turn → Pass → List ℕ → List ℕ → Type 0
-Stepped s n st put turn stepped m m₁ =
-    Swept (StepUses s (turn.stretch / s.k) (turn.stretch % s.k) (row_of st) n.steps) put turn.pass stepped m m₁
+abbrev pub Stepped : Plan → RowCounts → List ℕ → Bool → Turn → Pass → Pass → List ℕ → List ℕ → Type 0
+Stepped s n st put turn had stepped m m₁ =
+    Swept (StepUses s (turn.stretch / s.k) (turn.stretch % s.k) (row_of st) n.steps) put had stepped m m₁
 
--- the turn after one of which rule 4 is done
-pub record Goes (s : Plan) (n : RowCounts) (st pu po : List ℕ) (put : Bool) (b : Pass) (turn r : Turn) (m₀ m : List ℕ) : Type 0 where
-  pub turning : Turning s n st pu po put b r m₀ m
-  pub fewer : turns_left s r < turns_left s turn
+-- what follows on a turn, r: a turn or the end; the work carried `had` at that turn, and carries p at r
+pub record Goes (s : Plan) (n : RowCounts) (st pu po : List ℕ) (put : Bool) (b : Pass) (turn : Turn) (had : Pass) (r : Option Turn) (p : Pass)
+    (m₀ m : List ℕ) : Type 0 where
+  pub next : Next s n st pu po put b r p m₀ m
+  pub fewer : turns_left s r p.left < turns_left s (Some turn) had.left
+
+-- The end of a round, from the work's point of view: what follows, r, of work that carried p in m, and carries q in m', follows on the last turn
+-- of a round. The work began with b in m₀.
+abbrev pub Ends : Plan → RowCounts → List ℕ → Bool → Turn → Pass → List ℕ → Option Turn → Pass → List ℕ → Type 0
+Ends s n po put turn p m r q m' =
+    (st pu : List ℕ) (b had : Pass) (m₀ : List ℕ) → StretchesDone s n st pu po put b turn had p m₀ m → Goes s n st pu po put b turn had r q m₀ m'
+
+-- likewise on a turn of which rule 4 is done, before which so many marks could still be put
+abbrev pub Follows : Plan → RowCounts → List ℕ → List ℕ → Bool → Turn → ℕ → Pass → List ℕ → Option Turn → Pass → List ℕ → Type 0
+Follows s n pu po put turn left p m r q m' =
+    (st : List ℕ) (b had : Pass) (m₀ m₁ : List ℕ) → had.left ≡ left → Given s n st pu po → Turning s n st pu po put b turn had m₀ m₁
+    → Stepped s n st put turn had p m₁ m → Goes s n st pu po put b turn had r q m₀ m'

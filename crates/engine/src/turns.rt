@@ -2,228 +2,98 @@
 // of rows costs no more than a walk over all rows for each fact. After the last stretch the Q facts are gone over, unless the round put many marks;
 // so the round ends. Rounds go on until one puts nothing. In which order the work goes is free: it puts only what a rule gives, and the last round
 // goes over every use.
-ghost use Rattle.std.specs.Prelude.{◌≡◌, List, ℕ, ◌+◌, ◌*◌, ◌/◌, ◌%◌, ◌<◌, ◌≤◌, ltb};
-ghost use Rattle.store.specs.Marking.{room, Is};
-ghost use Rattle.positions.specs.Plans.{Planned};
+ghost use Rattle.std.specs.Prelude.{◌/◌, ◌%◌, ◌<◌, ◌≤◌};
 ghost use Rattle.uses.specs.Ranges.{RowsIn};
-ghost use Rattle.engine.specs.InRange.{Given};
-ghost use Rattle.uses.specs.Passing.{Swept};
+ghost use Rattle.uses.specs.Sweeping.{Kept, Did};
 ghost use Rattle.uses.specs.AllUses.{RestUses};
-ghost use Rattle.engine.specs.Turns.{stretch_count, NextStretch, StretchesDone, Turning, Stepped, Goes};
+ghost use Rattle.engine.specs.Turns.{stretch_count, NextStretch, Ends, Follows};
 
 use crate::q_facts::q_facts;
+use crate::stretches::{stretch_count, thread_and_pair};
 use passes::guarantees::guarantees;
-use passes::pushes_and_pops::rows_of;
-use positions::plan::{Plan, p_from};
-use store::marks::some;
-use store::rows::RowCounts;
-use uses::kinds::Kind;
-use uses::lines::Pass;
+use passes::pushes_and_pops::{Push, rows_of};
+use store::rows::RowLists;
+use uses::sweep::Sweep;
 
-// The number of the stretch of P facts whose turn it is, and what the work carries; `before` is how many marks could still be put when the round
-// began. A stretch past the last ends the work.
+// The number of the stretch of P facts whose turn it is; `before` is how many marks could still be put when the round began.
 #[derive(Clone, Copy)]
 pub struct Turn {
     pub stretch: usize,
     pub before: usize,
-    pub pass: Pass,
 }
 
-// The turn that the work begins with: the first stretch, in a round that put nothing yet.
-pub fn first_turn(pass: Pass) -> Turn
-    ensures { result ≡ record { stretch = 0; before = pass.left; pass = pass } }
+// The next stretch of P facts from i on that has a mark.
+fn next_stretch(sweep: &Sweep, i: usize) -> Option<usize>
+    requires { i ≤ stretch_count sweep.now.plan }
+    ensures { NextStretch sweep.now.plan sweep.now.mem.now i result }
 {
-    let left = pass.left;
-    Turn {
-        stretch: 0,
-        before: left,
-        pass: pass,
-    }
-}
-
-// Whether the work goes on. It ends with a turn past the last stretch.
-pub fn goes_on(s: Plan, turn: Turn) -> bool
-    requires { Planned s }
-    ensures { result ≡ ltb turn.stretch (stretch_count s) }
-{
-    turn.stretch < s.n * s.k
-}
-
-// The thread of the turn's stretch.
-pub fn thread_of(s: Plan, turn: Turn) -> usize
-    requires { Planned s × (turn.stretch < stretch_count s) }
-    ensures { (result ≡ turn.stretch / s.k) × (result < s.n) }
-{
-    turn.stretch / s.k
-}
-
-// The pair from which the facts of the turn's stretch lead.
-pub fn pair_from(s: Plan, turn: Turn) -> usize
-    requires { Planned s × (turn.stretch < stretch_count s) }
-    ensures { (result ≡ turn.stretch % s.k) × (result < s.k) }
-{
-    turn.stretch % s.k
-}
-
-// What the work carries at a turn, and hands on to the walker.
-pub fn pass_of(turn: Turn) -> Pass
-    ensures { result ≡ turn.pass }
-{
-    turn.pass
-}
-
-// The next stretch of P facts from i on that has a mark, or how many stretches there are.
-fn next_stretch(s: Plan, mem: &[u8], i: usize) -> usize
-    requires { Planned s × (i ≤ stretch_count s) × (s.w ≤ room mem.now) }
-    ensures { NextStretch s mem.now i result }
-{
-    let k = s.k;
-    let p = s.p;
-    let last = s.n * s.k;
-    let mut stretch = i;
-    while stretch < last {
-        if some(mem, p + stretch * k, k) {
-            return stretch;
+    let s = sweep.plan;
+    for stretch in i..stretch_count(s) {
+        if sweep.some(s.p + stretch * s.k, s.k) {
+            return Some(stretch);
         }
-        stretch += 1;
     }
-    last
+    None
 }
 
-// Rules 5 and 2 on the P facts of t from pair a.
-fn p_rest(
-    s: Plan,
-    counts: RowCounts,
-    pushes: &[u8],
-    t: usize,
-    a: usize,
-    mem: &mut [u8],
-    put: bool,
-    pass: Pass,
-) -> Pass
-    requires { Planned s × RowsIn s s.l s.f pushes.now counts.pushes × (t < s.n) × (a < s.k) × (s.w ≤ room mem.old) }
-    ensures { Swept (RestUses s counts pushes.now t a) put pass result mem.old mem.new }
+// Rules 5 and 2 on stretch i of the P facts.
+fn p_rest(sweep: &mut Sweep, rows: &RowLists, i: usize)
+    requires { RowsIn sweep.old.plan sweep.old.plan.l sweep.old.plan.f rows.now.pushes.now rows.now.counts.pushes × (i < stretch_count sweep.old.plan) }
+    ensures { Did (RestUses sweep.old.plan rows.now.counts rows.now.pushes.now (i / sweep.old.plan.k) (i % sweep.old.plan.k)) sweep.old sweep.new }
 {
-    let pushed = rows_of(Kind::Push, s, t, a, pushes, counts.pushes, mem, put, pass);
-    guarantees(s, t, p_from(s, t, a), mem, put, pushed)
+    let s = sweep.plan;
+    let (t, a) = thread_and_pair(s, i);
+    rows_of::<Push>(sweep, t, a, rows.pushes, rows.counts.pushes);
+    guarantees(sweep, t, s.p_from(t, a));
 }
 
 // A round put many marks if it put more than so many for each stretch of P facts.
 const MANY: usize = 16;
 
-// Whether a round put more marks than so many: how many could be put before it, and how many can be put after it.
-fn put_more(before: usize, left: usize, many: usize) -> bool
-    ensures { Is (left + many < before) result }
-{
-    if before <= left {
-        return false;
-    }
-    many < before - left
-}
-
 // The end of a round over the stretches of P facts. If it put many marks for each stretch, another begins at once, since there may be more Q facts
-// by far. Else the Q facts are gone over; if the round put nothing, or none is left to put, this ends the work.
-fn end_of_round(
-    s: Plan,
-    counts: RowCounts,
-    pops: &[u8],
-    mem: &mut [u8],
-    put: bool,
-    turn: Turn,
-    pass: Pass,
-) -> Turn
-    requires { Planned s × RowsIn s s.f s.l pops.now counts.pops × (s.w ≤ room mem.old) }
-    ensures { (st pu : List ℕ) (b : Pass) (m₀ : List ℕ)
-        → StretchesDone s counts st pu pops.now put b turn pass m₀ mem.old
-        → Goes s counts st pu pops.now put b turn result m₀ mem.new }
+// by far. Else the Q facts are gone over; if the round put nothing, or none is left to put, the work ends.
+fn end_of_round(sweep: &mut Sweep, rows: &RowLists, turn: Turn) -> Option<Turn>
+    requires { RowsIn sweep.old.plan sweep.old.plan.f sweep.old.plan.l rows.now.pops.now rows.now.counts.pops }
+    ensures kept { Kept sweep.old sweep.new }
+    ensures ends { Ends sweep.old.plan rows.now.counts rows.now.pops.now sweep.old.put turn sweep.old.pass sweep.old.mem.now
+        result sweep.new.pass sweep.new.mem.now }
 {
-    let last = s.n * s.k;
-    let before = turn.before;
-    let rest = pass.left;
-    if put_more(before, rest, last * MANY) {
-        return Turn {
+    if turn.before.saturating_sub(sweep.pass.left) > stretch_count(sweep.plan) * MANY {
+        return Some(Turn {
             stretch: 0,
-            before: rest,
-            pass: pass,
-        };
+            before: sweep.pass.left,
+        });
     }
-    let end = q_facts(s, counts, pops, mem, put, pass);
-    let left = end.left;
-    if left == before {
-        return Turn {
-            stretch: last,
-            before: left,
-            pass: end,
-        };
+    q_facts(sweep, rows);
+    let left = sweep.pass.left;
+    if left == turn.before || left == 0 {
+        return None;
     }
-    if left == 0 {
-        return Turn {
-            stretch: last,
-            before: left,
-            pass: end,
-        };
-    }
-    Turn {
+    Some(Turn {
         stretch: 0,
         before: left,
-        pass: end,
-    }
+    })
 }
 
-// The turn after this one, of which rule 4 is done.
-pub fn next_turn(
-    s: Plan,
-    counts: RowCounts,
-    pushes: &[u8],
-    pops: &[u8],
-    mem: &mut [u8],
-    put: bool,
-    turn: Turn,
-    stepped: Pass,
-) -> Turn
-    requires { Planned s × RowsIn s s.l s.f pushes.now counts.pushes × RowsIn s s.f s.l pops.now counts.pops
-        × (turn.stretch < stretch_count s) × (s.w ≤ room mem.old) }
-    ensures { (st : List ℕ) (b : Pass) (m₀ m : List ℕ) → Given s counts st pushes.now pops.now
-        → Turning s counts st pushes.now pops.now put b turn m₀ m
-        → Stepped s counts st put turn stepped m mem.old
-        → Goes s counts st pushes.now pops.now put b turn result m₀ mem.new }
+// The turn after this one, of which rule 4 is done, or none where the work ends; before that, `had` marks could still be put.
+pub fn next_turn(sweep: &mut Sweep, rows: &RowLists, turn: Turn, had: usize) -> Option<Turn>
+    requires { RowsIn sweep.old.plan sweep.old.plan.l sweep.old.plan.f rows.now.pushes.now rows.now.counts.pushes
+        × RowsIn sweep.old.plan sweep.old.plan.f sweep.old.plan.l rows.now.pops.now rows.now.counts.pops
+        × (turn.stretch < stretch_count sweep.old.plan) }
+    ensures kept { Kept sweep.old sweep.new }
+    ensures follows { Follows sweep.old.plan rows.now.counts rows.now.pushes.now rows.now.pops.now sweep.old.put turn had sweep.old.pass sweep.old.mem.now
+        result sweep.new.pass sweep.new.mem.now }
 {
-    let last = s.n * s.k;
-    let stretch = turn.stretch;
-    let before = turn.before;
-    let had = turn.pass;
-    let pass = p_rest(
-        s,
-        counts,
-        pushes,
-        stretch / s.k,
-        stretch % s.k,
-        mem,
-        put,
-        stepped,
-    );
-    let left = pass.left;
+    p_rest(sweep, rows, turn.stretch);
+    let left = sweep.pass.left;
     if left == 0 {
-        return Turn {
-            stretch: last,
-            before: left,
-            pass: pass,
-        };
+        return None;
     }
-    if left != had.left {
-        return Turn {
-            stretch: stretch,
-            before: before,
-            pass: pass,
-        };
+    if left != had {
+        return Some(turn);
     }
-    let next = next_stretch(s, mem, stretch + 1);
-    if next < last {
-        return Turn {
-            stretch: next,
-            before: before,
-            pass: pass,
-        };
+    match next_stretch(sweep, turn.stretch + 1) {
+        Some(stretch) => Some(Turn { stretch, ..turn }),
+        None => end_of_round(sweep, rows, turn),
     }
-    end_of_round(s, counts, pops, mem, put, turn, pass)
 }

@@ -3,38 +3,50 @@ ghost use Rattle.std.specs.Prelude.{◌≤◌};
 ghost use Rattle.store.specs.Marking.{room};
 ghost use Rattle.engine.specs.InRange.{Given};
 ghost use Rattle.uses.specs.AllUses.{AllUses};
+ghost use Rattle.uses.specs.Sweeping.{Kept};
 ghost use Rattle.engine.specs.Working.{Worked};
 
-use crate::turns::{first_turn, goes_on, next_turn, pair_from, pass_of, thread_of};
+use crate::stretches::thread_and_pair;
+use crate::turns::{Turn, next_turn};
 use positions::plan::Plan;
 use steps::walk;
-use store::rows::{RowCounts, step_rows};
+use store::rows::{RowLists, step_rows};
 use uses::lines::Pass;
+use uses::sweep::Sweep;
+
+// Takes turns until the work ends.
+fn take_turns(sweep: &mut Sweep, rows: &RowLists)
+    requires { Given sweep.old.plan rows.now.counts rows.now.steps.now rows.now.pushes.now rows.now.pops.now }
+    ensures kept { Kept sweep.old sweep.new }
+    ensures worked { Worked (AllUses sweep.old.plan rows.now.counts rows.now.steps.now rows.now.pushes.now rows.now.pops.now)
+        sweep.old.put sweep.old.pass sweep.new.pass sweep.old.mem.now sweep.new.mem.now }
+{
+    let s = sweep.plan;
+    let n = rows.counts.steps;
+    let steps = step_rows(rows.steps, n);
+    let mut next = Some(Turn {
+        stretch: 0,
+        before: sweep.pass.left,
+    });
+    while let Some(turn) = next {
+        let had = sweep.pass.left;
+        let (t, a) = thread_and_pair(s, turn.stretch);
+        walk(sweep, t, a, &steps[..n]);
+        next = next_turn(sweep, rows, turn, had);
+    }
+}
 
 // Puts marks until nothing lacks or none is left to put, or looks once over every use.
-pub fn work(
-    s: Plan,
-    counts: RowCounts,
-    steps: &[u8],
-    pushes: &[u8],
-    pops: &[u8],
-    mem: &mut [u8],
-    put: bool,
-    pass: Pass,
-) -> Pass
-    requires { Given s counts steps.now pushes.now pops.now × (s.w ≤ room mem.old) }
-    ensures { Worked (AllUses s counts steps.now pushes.now pops.now)
-        put pass result mem.old mem.new }
+pub fn work(plan: Plan, rows: &RowLists, mem: &mut [u8], put: bool, pass: Pass) -> Pass
+    requires { Given plan rows.now.counts rows.now.steps.now rows.now.pushes.now rows.now.pops.now × (plan.w ≤ room mem.old) }
+    ensures { Worked (AllUses plan rows.now.counts rows.now.steps.now rows.now.pushes.now rows.now.pops.now) put pass result mem.old mem.new }
 {
-    let n = counts.steps;
-    let rows = step_rows(steps, n);
-    let mut turn = first_turn(pass);
-    while goes_on(s, turn) {
-        let t = thread_of(s, turn);
-        let a = pair_from(s, turn);
-        let sofar = pass_of(turn);
-        let stepped = walk(&rows[..n], s, t, a, mem, put, sofar);
-        turn = next_turn(s, counts, pushes, pops, mem, put, turn, stepped);
-    }
-    pass_of(turn)
+    let mut sweep = Sweep {
+        plan,
+        mem,
+        put,
+        pass,
+    };
+    take_turns(&mut sweep, rows);
+    sweep.pass
 }

@@ -1,50 +1,31 @@
 -- If the stretch of Q facts has no mark, nothing is done; else rule 6 and then rule 3.
-use mathlib.Core.Path.{◌≡◌, ap, subst}
-use Prim.Native.Nat.{◌+◌, ◌*◌, ◌≤◌}
-use native.Mathlib.Omega.{arith}
+use mathlib.Core.Path.{◌≡◌, subst}
+use Prim.Native.Nat.{◌+◌, ◌*◌}
+use Rattle.std.proofs.Common.{rules}
 use Rattle.store.specs.Marking.{SomeIn}
-use Rattle.positions.specs.Plans.{q_from}
+use Rattle.positions.specs.Plans.{Plan, Planned, q_from}
 use Rattle.store.proofs.MarkLaws.{is_false}
-use Rattle.positions.proofs.Places.{q_stretches, q_stretch}
 use Rattle.uses.specs.Uses.{Upto, Either}
+use Rattle.uses.specs.Sweeping.{Did}
 use Rattle.uses.specs.RuleUses.{CallUse, MovedFrom}
-use Rattle.uses.proofs.PassLaws.{swept_room, swept_of, and_then}
+use Rattle.uses.proofs.SweepLaws.{kept_none, told, did_then}
 use Rattle.engine.proofs.EmptyStretches.{frame_empty}
 use Rattle.engine.proofs.q_facts.frame.Goals as goal
 
-pub overflow_add-y : goal.overflow_add-y
-overflow_add-y c =
-    let stretch : (c.q_from.result + c.args.f * c.args.s.k + c.args.s.k ≤ c.args.s.w) × (c.args.s.w ≤ 2360320) = let (h, t, a, f, room) = c.requires in (omega (arith, c.q_from.ensures, q_stretches h t a, q_stretch h f), h.w_max) in
-    omega (arith, stretch)
-
-pub some-requires : goal.some-requires
-some-requires c =
-    let stretch : (c.q_from.result + c.args.f * c.args.s.k + c.args.s.k ≤ c.args.s.w) × (c.args.s.w ≤ 2360320) = let (h, t, a, f, room) = c.requires in (omega (arith, c.q_from.ensures, q_stretches h t a, q_stretch h f), h.w_max) in
-    omega (arith, stretch, c.requires.4)
-
-pub returns-then-not-some : goal.returns-then-not-some
-returns-then-not-some c =
-    let y_is : c.q_from.result + c.args.f * c.args.s.k ≡ q_from c.args.s c.args.t c.args.a + c.args.f * c.args.s.k = ap (λ z. z + c.args.f * c.args.s.k) c.q_from.ensures in
+pub returns-then-some : goal.returns-then-some
+returns-then-some c =
     let a = c.args in
-    frame_empty a.mem.now c.requires.0 a.t a.a a.f _
-    (subst (λ y. SomeIn a.mem.now y a.s.k → ⊥) (y_is)
-    (is_false _ c.some.ensures c.if-not-some.true))
+    let s = a.sweep.now.plan in
+    let y_is : c.q_from.result + a.f * c.s.inside.k ≡ q_from s a.t a.a + a.f * s.k = search rules in
+    subst (λ y. Did (Either (Upto (CallUse s a.t y) s.k) (Upto (MovedFrom s a.t y) s.g)) a.sweep.now c.guarantees.new.sweep) y_is
+    (did_then c.calls.ensures (told c.calls.ensures.kept (λ (p : Plan). Upto (MovedFrom p a.t (c.q_from.result + a.f * c.s.inside.k)) p.g) c.guarantees.ensures))
 
-pub calls-called-requires : goal.calls-called-requires
-calls-called-requires c =
-    let stretch : (c.q_from.result + c.args.f * c.args.s.k + c.args.s.k ≤ c.args.s.w) × (c.args.s.w ≤ 2360320) = let (h, t, a, f, room) = c.requires in (omega (arith, c.q_from.ensures, q_stretches h t a, q_stretch h f), h.w_max) in
-    let (h, t, a, f, room) = c.requires in
-    (h, t, (stretch).0, room)
-
-pub guarantees-requires : goal.guarantees-requires
-guarantees-requires c =
-    let stretch : (c.q_from.result + c.args.f * c.args.s.k + c.args.s.k ≤ c.args.s.w) × (c.args.s.w ≤ 2360320) = let (h, t, a, f, room) = c.requires in (omega (arith, c.q_from.ensures, q_stretches h t a, q_stretch h f), h.w_max) in
-    let (h, t, a, f, room) = c.requires in
-    (h, (stretch).0, omega (arith, swept_room c.calls-called.ensures))
-
-pub returns : goal.returns
-returns c =
-    let y_is : c.q_from.result + c.args.f * c.args.s.k ≡ q_from c.args.s c.args.t c.args.a + c.args.f * c.args.s.k = ap (λ z. z + c.args.f * c.args.s.k) c.q_from.ensures in
+pub returns-else-some : goal.returns-else-some
+returns-else-some c =
     let a = c.args in
-    swept_of (λ y. Either (Upto (CallUse a.s a.t y) a.s.k) (Upto (MovedFrom a.s a.t y) a.s.g)) (y_is)
-    (and_then c.calls-called.ensures c.guarantees.ensures)
+    let s = a.sweep.now.plan in
+    let h = subst Planned c.s.view_is c.s.invariant in
+    let m = a.sweep.now.mem.now in
+    let none = subst (λ (p : Plan). SomeIn m (c.q_from.result + a.f * p.k) p.k → ⊥) c.s.view_is (is_false _ c.some.ensures c.if-some.false) in
+    let empty = subst (λ y. SomeIn m (y + a.f * s.k) s.k → ⊥) c.q_from.ensures.0 none in
+    record { kept = kept_none; swept = frame_empty a.sweep.now.mem.now h a.t a.a a.f _ empty }

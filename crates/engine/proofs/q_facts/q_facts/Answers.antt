@@ -1,19 +1,24 @@
 -- Without frames nothing is done. Else the stretches that are counted before i are done.
-use native.Mathlib.Omega.{arith}
-use Rattle.uses.proofs.PassLaws.{upto_none, upto_next, upto_spent}
+use mathlib.Core.Path.{sym, subst, ap, ◌∙◌}
+use Rattle.std.proofs.Common.{rules}
+use Rattle.positions.specs.Plans.{Plan, Planned}
+use Rattle.uses.specs.AllUses.{QStretches}
+use Rattle.uses.proofs.SweepLaws.{kept_none, did_none, did_next, did_spent}
 use Rattle.engine.proofs.EmptyStretches.{no_frames}
 use Rattle.engine.proofs.q_facts.q_facts.Goals as goal
 
 pub returns-then-s-eq0 : goal.returns-then-s-eq0
 returns-then-s-eq0 c =
-    no_frames c.args.mem.now c.requires.0 c.args.counts c.requires.1 c.if-s-eq0.true _
+    let h = subst Planned c.s.view_is c.s.invariant in
+    let none = ap (λ (p : Plan). p.f) (sym c.s.view_is) ∙ c.if-s-eq0.true in
+    record { kept = kept_none; swept = no_frames c.args.sweep.now.mem.now h c.args.rows.now.counts c.requires none _ }
 
 pub loop-i-init : goal.loop-i-init
-loop-i-init c = (omega arith, upto_none _)
+loop-i-init c = did_none _
 
-pub returns-then-sofar-eq0 : goal.returns-then-sofar-eq0
-returns-then-sofar-eq0 c = let (le, swept) = c.loop-i.invariant in upto_spent _ le c.if-sofar-eq0.true swept
+pub returns-then-sweep-eq0 : goal.returns-then-sweep-eq0
+returns-then-sweep-eq0 c = did_spent _ (search rules) c.if-sweep-eq0.true c.loop-i.invariant
 
 pub loop-i-preserved : goal.loop-i-preserved
 loop-i-preserved c =
-    (omega arith, upto_next _ c.loop-i.invariant.1 c.q_stretches-sofar.ensures)
+    let r = c.args.rows.now in did_next (λ p. QStretches p r.counts r.pops.now) c.loop-i.invariant c.q_stretches.ensures

@@ -1,24 +1,23 @@
 -- No stretch from i up to this one has a mark.
-use mathlib.Core.Path.{subst}
+use mathlib.Core.Path.{sym, subst}
+use Prim.Native.Nat.{◌+◌, ◌*◌, ◌≤◌}
 use native.Mathlib.Omega.{arith}
-use Rattle.store.proofs.MarkLaws.{is_false}
+use Rattle.positions.specs.Plans.{Plan, Planned}
 use Rattle.positions.proofs.Places.{parts}
-use Rattle.engine.specs.Turns.{NoneBetween}
 use Rattle.uses.proofs.StretchNumbers.{p_room}
-use Rattle.engine.proofs.NextStretch.{stretches_end, none_more}
 use Rattle.engine.proofs.turns.next_stretch.Goals as goal
 
 pub some-requires : goal.some-requires
-some-requires c = let (plan, i, room) = c.requires in omega (arith, p_room plan c.loop-stretch-test.true, parts plan)
-
-pub loop-stretch-preserved : goal.loop-stretch-preserved
-loop-stretch-preserved c =
-    let (from, upto, none) = c.loop-stretch.invariant in
-    let empty = is_false _ c.some.ensures c.if-some.false in
-    (omega arith, omega arith, none_more _ _ _ none empty)
+some-requires c =
+    let s = c.args.sweep.now.plan in
+    let h = subst Planned c.s.view_is c.s.invariant in
+    subst (λ (p : Plan). p.p + c.loop-stretch.stretch * p.k + p.k ≤ s.w) (sym c.s.view_is)
+    (omega (arith, p_room h {i = c.loop-stretch.stretch} (omega (arith, c.loop-stretch-test.true, c.stretch_count-stretch-end.ensures)), parts h))
 
 pub returns : goal.returns
 returns c =
-    let (from, upto, none) = c.loop-stretch.invariant in
-    let e = stretches_end upto c.loop-stretch-test.false in
-    record { from = omega arith; upto = omega arith; none = subst (NoneBetween _ _ _ _) e none; here = λ l. absurd (omega arith) }
+    record {
+      from = c.requires;
+      upto = omega arith;
+      none = λ j from below. c.loop-stretch.invariant j from (omega (arith, c.stretch_count-stretch-end.ensures, below));
+    }
