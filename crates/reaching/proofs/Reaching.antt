@@ -1,40 +1,49 @@
 -- The local stores that a thread reaches: by the marks, for a cell, and for the cell 0, which fits them all.
-use mathlib.Core.Path.{◌≡◌, refl}
+use mathlib.Core.Path.{◌≡◌, refl, sym, ◌∙◌}
 use mathlib.Core.Bool.{Bool, true, false}
 use mathlib.Core.Logic.{inl}
 use mathlib.Core.List.{List}
-use Prim.Native.Nat.{ℕ, ◌+◌, ◌*◌, ◌≤◌, ◌<◌}
+use Prim.Native.Nat.{ℕ, ◌+◌, ◌*◌, ◌<◌}
+use native.Mathlib.Nat.{zero-add}
 use native.Mathlib.Omega.{arith}
-use Rattle.model.specs.Errors.{Cell}
+use Rattle.std.proofs.Common.{MatchBool, length, Option, Some, None}
+use Rattle.std.proofs.lemmas.Bool.{true≢false}
+use Rattle.std.specs.Option.{option_eq}
+use lib.Dec.{eqb}
+use borrow.Author.Tests.{eqb-true, eqb-false}
+use Rattle.std.proofs.lemmas.List.FromFn.{length-range_with_len, get_or-range_with_len}
+use Rattle.std.specs.List.{range_with_len, HoldsAt, AllWithin}
 use Rattle.model.specs.Claims.{First}
 use Rattle.model.proofs.Unique.{first_same}
-use Rattle.positions.specs.declared.plan.Plan.{Plan}
-use Rattle.positions.specs.Plans.{pair, p_at}
+use Rattle.positions.specs.Plans.{Plan, pair, p_at}
 use Rattle.store.specs.Marking.{Has, Is}
-use Rattle.reaching.specs.Reaching.{Reached, Choice, Least, smallest, nothing}
-use Rattle.reaching.proofs.Numbers.{least_first}
+use Rattle.reaching.specs.Reaching.{Reached, Choice, Least}
 
--- x is where the P facts of t begin that end at g, l
-module _ {s : Plan} {m : List ℕ} {g t l : ℕ} (x : ℕ) (at_x : x ≡ p_at s t (pair s g l)) (j : ℕ) where
-  pub mark_reached : l < s.l → j < s.k → Has m (x + j * s.k) → Reached s m g t l
-  mark_reached ll jl h = record { l_lt = ll; j = j; j_lt = jl; has = rw at_x at h }
+-- x is where the P facts of t begin that end at g, l; whether one of those from the pairs below k is marked
+module _ (s : Plan) (m : List ℕ) (g t : ℕ) {l k x : ℕ} (at_x : x ≡ p_at s t (pair s g l)) (same : k ≡ s.k) (ll : l < s.l) where
+  pub some_reached : (r : Bool)
+      → MatchBool r ((i : ℕ) × (i < length (range_with_len 0 k)) × HoldsAt (λ j. Has m (x + j * k)) (range_with_len 0 k) i)
+      (AllWithin (λ j. ¬ Has m (x + j * k)) (range_with_len 0 k) 0 (length (range_with_len 0 k)))
+      → Is (Reached s m g t l) r
+  some_reached true (i, il, has) =
+      let jl : i < k = rw length-range_with_len at il in
+      let e = get_or-range_with_len 0 k i 0 jl ∙ zero-add i in
+      record { l_lt = ll; j = i; j_lt = omega arith; has = rw (e, at_x, same) at (has 0) }
+  some_reached false none = λ r.
+      let jl : r.j < k = omega (arith, r.j_lt) in
+      let long = length-range_with_len 0 k in
+      let e = get_or-range_with_len 0 k r.j 0 jl ∙ zero-add r.j in
+      rw e at (none r.j 0 (omega arith) (omega arith)) (rw (at_x, same) r.has)
 
-  pub no_mark_reached : s.k ≤ j → ((i : ℕ) → i < j → ¬ Has m (x + i * s.k)) → ¬ Reached s m g t l
-  no_mark_reached jl none r = none r.j (omega (arith, r.j_lt)) (rw at_x r.has)
-
--- the test of a choice, if the cell fits
-pub choice_test : (A : ℕ → Type 0) (c l : ℕ) (r : Bool) → Cell c l → Is (A l) r → Is (Choice A c l) r
-choice_test A c l true f a = record { fits = f; reached = a }
-choice_test A c l false f a = λ x. a x.reached
+-- ---- a choice for the cell 0, which fits every store
 
 -- the smallest store for the cell 0 is the smallest that is reached
 any_first : {A : ℕ → Type 0} {r : ℕ} → First (Choice A 0) r → First A r
 any_first f = record { here = f.here.reached; none = λ q l a. f.none q l (record { fits = inl refl; reached = a }) }
 
-module _ {A : ℕ → Type 0} {n r k : ℕ} where
-  pub any_is_first : Least (Choice A 0) n r → r ≡ k → k < n → First A k
-  any_is_first h e l = rw e at (any_first (least_first h (λ z. omega arith)))
-
-  pub any_not_first : Least (Choice A 0) n r → ¬ (r ≡ k) → ¬ First A k
-  any_not_first (smallest l f) ne g = ne (first_same (any_first f) g)
-  any_not_first (nothing e h) ne g = h k (record { fits = inl refl; reached = g.here })
+-- whether that is k
+pub smallest_is : (A : ℕ → Type 0) (n k : ℕ) (r : Option ℕ) → Least (Choice A 0) n r → (b : Bool) → b ≡ option_eq eqb r (Some k) → Is (First A k) b
+smallest_is A n k None none true e = absurd (true≢false e)
+smallest_is A n k None none false e = λ f. none k (record { fits = inl refl; reached = f.here })
+smallest_is A n k (Some r) (l, f) true e = let same = eqb-true r k (sym e) in rw same at (any_first f)
+smallest_is A n k (Some r) (l, f) false e = λ g. eqb-false r k (sym e) (first_same (any_first f) g)

@@ -1,78 +1,75 @@
 // The cells that a row asks of the threads at a shared store, in row 0 as in the rows of the file. Row 0 asks that some thread is in the failed
 // store. One thread is picked for it, such that the smallest list with that thread there is the smallest of all.
 ghost use Rattle.std.specs.Prelude.{◌≡◌, ◌+◌, ◌*◌, ◌<◌, ◌≤◌, length};
-ghost use Rattle.files.specs.Table.{most_threads, most_errors};
-ghost use Rattle.positions.specs.Plans.{Planned};
-ghost use Rattle.store.specs.Marking.{room};
-ghost use Rattle.reaching.specs.Reaching.{Reached, Last, Picked, Aimed, asked_cell};
+ghost use Rattle.files.specs.Table.{most_threads};
+ghost use Rattle.reaching.specs.Reaching.{Reached, Picked, Aimed, row_cell, asked_cell};
 
-use crate::reach::{cell_fits, least, reached};
-use positions::plan::Plan;
+use crate::reach::{Facts, cell_fits};
 use store::rows::cell;
 
-// The last thread up to t that reaches l at g, given u, the last before t.
-fn later(s: Plan, mem: &[u8], t: usize, g: usize, l: usize, u: usize) -> usize
-    requires { Planned s × (s.w ≤ room mem.now) × (t < s.n) × (g < s.g) × (l < s.l)
-        × Last (λ i. Reached s mem.now g i l) s.n t u }
-    ensures { Last (λ i. Reached s mem.now g i l) s.n (t + 1) result }
-{
-    if reached(s, mem, t, g, l) {
-        return t;
-    }
-    u
-}
-
-// The thread that is to be in the failed store k at g: the first whose smallest store that is; else the last that reaches it; else the number of
-// threads.
-fn pick(s: Plan, mem: &[u8], g: usize, k: usize) -> usize
-    requires { Planned s × (s.w ≤ room mem.now) × (g < s.g) × (k < s.l) }
-    ensures { Picked (Reached s mem.now g) s.n k result }
-{
-    let n = s.n;
-    let mut u = n;
-    let mut t: usize = 0;
-    while t < n {
-        u = later(s, mem, t, g, k, u);
-        if u == t {
-            let l = least(s, mem, t, g, 0);
-            if l == k {
-                return t;
+impl<'a> Facts<'a> {
+    // The thread that is to be in the failed store k at g: the first whose smallest store that is; else the last that reaches it.
+    fn pick(&self, g: usize, k: usize) -> Option<usize>
+        requires { (g < self.now.plan.g) × (k < self.now.plan.l) }
+        ensures { Picked (Reached self.now.plan self.now.mem.now g) self.now.plan.n k result }
+    {
+        let plan = self.plan;
+        let mut last = None;
+        for t in 0..plan.n {
+            if self.reached(t, g, k) {
+                if self.least(t, g, 0) == Some(k) {
+                    return Some(t);
+                }
+                last = Some(t);
             }
         }
-        t += 1;
+        last
     }
-    u
 }
 
-// For row 0, the thread that is to be in the failed store at g; for a row of the file, thread 0 if the row fits g. Else the number of threads.
-pub fn aim(s: Plan, failed: usize, rows: &[u8], n: usize, mem: &[u8], row: usize, g: usize) -> usize
-    requires { Planned s × (failed ≤ s.l) × (5 * n ≤ length rows.now) × (n ≤ most_errors) × (s.w ≤ room mem.now)
-        × (row ≤ n) × (g < s.g) }
-    ensures { Aimed s failed rows.now mem.now row g result }
-{
-    if row == 0 {
-        if failed == 0 {
-            return s.n;
-        }
-        return pick(s, mem, g, failed - 1);
-    }
-    let c = cell(rows, 5 * (row - 1));
-    if cell_fits(c, g) {
-        return 0;
-    }
-    s.n
+// What a table counts as errors: its failed cell, and its n error rows, five bytes a row. The cell is 0 for none or any, and k + 1 for store k: these
+// are the file's numbers, which `Cell` of model speaks of. The rows stand first in memory of fixed size that is longer than they are, so n stands
+// beside it, as `ErrorsOf` of verdict has it.
+#[derive(Clone, Copy)]
+pub struct ErrorRows<'a> {
+    pub failed: usize,
+    pub rows: &'a [u8],
+    pub n: usize,
+    ghost whole: { 5 * n ≤ length rows.now },
 }
 
-// The cell of thread t in a row. In row 0 it is the failed store for thread u, and any store for the others.
-pub fn cell_of(failed: usize, rows: &[u8], n: usize, row: usize, u: usize, t: usize) -> usize
-    requires { (5 * n ≤ length rows.now) × (n ≤ most_errors) × (row ≤ n) × (t < most_threads) }
-    ensures { result ≡ asked_cell failed rows.now row u t }
-{
-    if row == 0 {
-        if t == u {
-            return failed;
-        }
-        return 0;
+impl<'a> ErrorRows<'a> {
+    // Cell j of row i, counted from 0.
+    fn cell(&self, i: usize, j: usize) -> usize
+        requires { (i < self.now.n) × (j < 5) }
+        ensures { result ≡ row_cell self.now.rows.now i j }
+    {
+        cell(self.rows, 5 * i + j)
     }
-    cell(rows, 5 * (row - 1) + (1 + t))
+
+    // For row 0, the thread that is to be in the failed store at g; for a row of the file, thread 0 if the row fits g.
+    pub fn aim(&self, facts: &Facts, row: usize, g: usize) -> Option<usize>
+        requires { (self.now.failed ≤ facts.now.plan.l) × (row ≤ self.now.n) × (g < facts.now.plan.g) }
+        ensures { Aimed facts.now.plan self.now.failed self.now.rows.now facts.now.mem.now row g result }
+    {
+        if row > 0 {
+            cell_fits(self.cell(row - 1, 0), g).then_some(0)
+        } else {
+            facts.pick(g, self.failed.checked_sub(1)?)
+        }
+    }
+
+    // The cell of thread t in a row. In row 0 it is the failed store for thread u, and any store for the others.
+    pub fn cell_of(&self, row: usize, u: usize, t: usize) -> usize
+        requires { (row ≤ self.now.n) × (t < most_threads) }
+        ensures { result ≡ asked_cell self.now.failed self.now.rows.now row u t }
+    {
+        if row > 0 {
+            self.cell(row - 1, 1 + t)
+        } else if t == u {
+            self.failed
+        } else {
+            0
+        }
+    }
 }
