@@ -41,10 +41,10 @@ module _ {T : Table} (sound : Sound T) where
       let ls = w.locals in
       let count = s.allowed.count in
       let same : take T.n (four_of ls) ≡ ls = four_take ls count sound.n.1 in (
-        Possible w.row w.shared (get_or ls 0 0) (get_or ls 1 0) (get_or ls 2 0) (get_or ls 3 0),
+        Possible (record { row = w.row; g = w.shared; locals = four_of ls }),
         record {
           verdict = rw same (possible s);
-          padded = λ t h. four_at ls (omega (arith, sound.n.1)) t ∙ get_or-eq_default ls 0 (omega arith);
+          padded = (refl, λ t h. four_at ls (omega (arith, sound.n.1)) t ∙ get_or-eq_default ls 0 (omega arith));
         },
       )
 

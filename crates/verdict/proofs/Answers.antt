@@ -2,12 +2,12 @@
 -- or a claim, it is the verdict on that set; and its row is the smallest of an allowed error.
 use mathlib.Core.Path.{◌≡◌, refl, sym, ap, ◌∙◌}
 use mathlib.Core.Option.{some}
-use mathlib.Core.List.{List, [], ◌∷◌}
+use mathlib.Core.List.{List}
 use Prim.Native.Nat.{ℕ, ◌≤◌, ◌<◌}
 use native.Mathlib.Decide.{dec_lt}
 use native.Mathlib.Omega.{arith}
-use lib.ListN.{get_or, take}
-use lib.Seq.{get_or-take}
+use lib.ListN.{length, get_or, take}
+use lib.Seq.{get_or-take, ext_get_or}
 use contract.Lifetimes.{Lfts}
 use denote.Triple.Clauses.{AtExit}
 use borrow.Fn.Kinds.{Dens, ended_of}
@@ -24,6 +24,7 @@ use Rattle.model.proofs.InRange.{derives_fits}
 use Rattle.model.proofs.Memory.{marked_in, in_marked}
 use Rattle.model.proofs.Unique.{verdict_same}
 use Rattle.model.proofs.Claims.{witness_row}
+use Rattle.verdict.specs.declared.search.Witness as search
 use Rattle.verdict.specs.declared.search.Verdict.{Verdict}
 use Rattle.verdict.specs.declared.search.Verdict.TheVariants.{Safe, Possible}
 use Rattle.verdict.specs.Judged.{shown, Padded, Answers}
@@ -33,26 +34,26 @@ use Rattle.verdict.proofs.search.judge.Kinds as judge-kinds
 
 -- ---- the only answer
 
--- two lists with the same first n numbers, and 0 after these
-padded_same : (n : ℕ) (xs ys : List ℕ) → take n xs ≡ take n ys → ((t : ℕ) → n ≤ t → get_or xs t 0 ≡ 0) → ((t : ℕ) → n ≤ t → get_or ys t 0 ≡ 0)
-    → (t : ℕ) → get_or xs t 0 ≡ get_or ys t 0
-padded_same n xs ys e p q t = go (dec_lt t n)
+-- two lists with the same first n numbers, of the same length, and 0 after the first n
+padded_same : (n : ℕ) (xs ys : List ℕ) → length xs ≡ length ys → take n xs ≡ take n ys → ((t : ℕ) → n ≤ t → get_or xs t 0 ≡ 0)
+    → ((t : ℕ) → n ≤ t → get_or ys t 0 ≡ 0) → xs ≡ ys
+padded_same n xs ys long e p q = ext_get_or 0 xs ys long (λ t l. go t (dec_lt t n))
   where
-    go : Dec (t < n) → get_or xs t 0 ≡ get_or ys t 0
-    go (yes l) = sym (get_or-take n xs t 0 l) ∙ ap (λ (zs : List ℕ). get_or zs t 0) e ∙ get_or-take n ys t 0 l
-    go (no l) = p t (omega arith) ∙ sym (q t (omega arith))
+    go : (t : ℕ) → Dec (t < n) → get_or xs t 0 ≡ get_or ys t 0
+    go t (yes l) = sym (get_or-take n xs t 0 l) ∙ ap (λ (zs : List ℕ). get_or zs t 0) e ∙ get_or-take n ys t 0 l
+    go t (no l) = p t (omega arith) ∙ sym (q t (omega arith))
 
 some_inj : {w v : Witness} → some w ≡ some v → w ≡ v
 some_inj e = cc
 
 shown_same : (n : ℕ) (r r' : Verdict) → shown n r ≡ shown n r' → Padded n r → Padded n r' → r ≡ r'
 shown_same n Safe Safe e p q = refl
-shown_same n Safe (Possible row g l0 l1 l2 l3) e p q = let z : ◌≡◌ {A = ℕ} 0 1 = cc in absurd (omega arith)
-shown_same n (Possible row g l0 l1 l2 l3) Safe e p q = let z : ◌≡◌ {A = ℕ} 0 1 = cc in absurd (omega arith)
-shown_same n (Possible row g l0 l1 l2 l3) (Possible row' g' l0' l1' l2' l3') e p q =
-    let w = some_inj e in
-    let at = padded_same n (l0 ∷ l1 ∷ l2 ∷ l3 ∷ []) (l0' ∷ l1' ∷ l2' ∷ l3' ∷ []) (ap (λ (w : Witness). w.locals) w) p q in
-    λ i. Possible (w i).row (w i).shared (at 0 i) (at 1 i) (at 2 i) (at 3 i)
+shown_same n Safe (Possible w) e p q = let z : ◌≡◌ {A = ℕ} 0 1 = cc in absurd (omega arith)
+shown_same n (Possible w) Safe e p q = let z : ◌≡◌ {A = ℕ} 0 1 = cc in absurd (omega arith)
+shown_same n (Possible w) (Possible w') e p q =
+    let is = some_inj e in
+    let locals = padded_same n w.locals w'.locals (p.0 ∙ sym q.0) (ap (λ (w : Witness). w.locals) is) p.1 q.1 in
+    λ i. Possible (record { row = (is i).row; g = (is i).shared; locals = locals i })
 
 module _ {T : Table} where
   pub answers_same : {S : Fact → Type 0} {r r' : Verdict} → Answers T S r → Answers T S r' → r ≡ r'
@@ -71,7 +72,7 @@ module _ {T : Table} where
   -- ---- the smallest row of an allowed error
 
   module _ {S : Fact → Type 0} where
-    pub possible_row : {row g l0 l1 l2 l3 : ℕ} → Answers T S (Possible row g l0 l1 l2 l3) → First (AllowsRow T S) row
+    pub possible_row : {w : search.Witness} → Answers T S (Possible w) → First (AllowsRow T S) w.row
     possible_row a = elim a.verdict [ possible w ↦ witness_row w ]
 
     pub safe_none : Answers T S Safe → model.Safe T S
@@ -79,6 +80,6 @@ module _ {T : Table} where
 
 -- ---- the contract as the prover reads it from the source
 
-pub judge_fixes : (κs : Lfts 2) (a : Dens κs judge-kinds.ps) (x x' : Verdict) (s s' : AtExit (ended_of 2 judge-kinds.ps judge-kinds.r) κs)
+pub judge_fixes : (κs : Lfts 4) (a : Dens κs judge-kinds.ps) (x x' : Verdict) (s s' : AtExit (ended_of 4 judge-kinds.ps judge-kinds.r) κs)
     → judge.Pre κs a → judge.Post κs a x s → judge.Post κs a x' s' → x ≡ x'
-judge_fixes κs a x x' s s' ((T, of), _, _) p q = answers_same (p T of) (q T of)
+judge_fixes κs a x x' s s' (T, of) p q = answers_same (p T of) (q T of)

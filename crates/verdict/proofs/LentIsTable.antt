@@ -1,41 +1,25 @@
 -- What is said of the lent bytes is what model says of the table: the stores that a thread reaches, the cells of an error row, and so the errors
 -- that are allowed.
-use mathlib.Core.Path.{◌≡◌, refl, sym, ap, subst, ◌∙◌}
+use mathlib.Core.Path.{◌≡◌, refl, sym, ap, ◌∙◌}
 use mathlib.Core.Option.{some}
 use mathlib.Core.List.{List, []}
 use Prim.Native.Nat.{ℕ, zero, suc, ◌+◌, ◌*◌, ◌/◌, ◌%◌, ◌≤◌, ◌<◌}
 use native.Mathlib.Omega.{arith}
 use lib.Arith.{digits_lt}
 use lib.ListN.{length, get_or, get_elem?}
-use Rattle.files.specs.Table.{Table, Sound, Error, error_cells, most_errors}
+use Rattle.files.specs.Table.{Table, Sound, Error, error_cells}
 use Rattle.model.specs.Rules.{P}
 use Rattle.model.specs.Errors.{Cell, Erroneous, Reaches, Witness, Allows}
 use Rattle.model.specs.Errors as model
 use Rattle.model.specs.Memory.{Marked}
-use Rattle.positions.specs.declared.plan.Plan.{Plan}
-use Rattle.positions.specs.Plans.{Planned, plan_of}
+use Rattle.positions.specs.Plans.{Plan, plan_of}
 use Rattle.store.proofs.MarkLaws.{marked_has, has_marked}
-use Rattle.positions.proofs.PlanIsModel.{planned, pos_p, pos_p_to, pair_fits}
+use Rattle.positions.proofs.PlanIsModel.{pos_p, pos_p_to, pair_fits}
 use Rattle.model.proofs.Lists.{some_lt}
 use Rattle.verdict.specs.ErrorRows.{ErrorsOf}
 use Rattle.reaching.specs.Reaching.{row_cell, Reached}
 use Rattle.verdict.proofs.Lists.{some_get_or, get_d_some}
 use Rattle.reaching.proofs.CellLaws.{cell_eq}
-
--- ---- what is lent is in range
-
-abbrev pub Ranges : Plan → ℕ → List ℕ → ℕ → List ℕ → Type 0
-Ranges s failed rows n m = Planned s × (failed ≤ s.l) × (5 * n ≤ length rows) × (n ≤ most_errors) × (s.w ≤ length m)
-
-pub errors_in_range : {T : Table} {s : Plan} {failed : ℕ} {rows : List ℕ} {n : ℕ} (m : List ℕ) → ErrorsOf T s failed rows n → 5 * n ≤ length rows
-    → s.w ≤ length m → Ranges s failed rows n m
-errors_in_range {T} m of long enough = (
-  subst Planned (sym of.plan) (planned T of.sound),
-  rw (of.plan, of.fails) of.sound.failed,
-  long,
-  omega (arith, of.count, of.sound.errors.count),
-  enough,
-)
 
 -- ---- the stores that are reached
 

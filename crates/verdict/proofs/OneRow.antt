@@ -6,21 +6,17 @@ use mathlib.Core.List.{List}
 use Prim.Native.Nat.{ℕ, suc, ◌≤◌, ◌<◌}
 use native.Mathlib.Decide.{ℕ_discrete}
 use native.Mathlib.Omega.{arith}
+use Rattle.std.proofs.Common.{Some, None}
 use lib.ListN.{length, get_or}
 use Rattle.files.specs.Table.{Table}
-use Rattle.model.specs.Errors.{Erroneous, Allows}
+use Rattle.model.specs.Errors.{Erroneous}
 use Rattle.model.specs.Verdict.{◌≼◌}
-use Rattle.model.specs.Memory.{Marked}
 use Rattle.model.specs.Claims.{First}
-use Rattle.positions.specs.declared.plan.Plan.{Plan}
-use Rattle.verdict.specs.ErrorRows.{ErrorsOf}
+use Rattle.positions.specs.Plans.{Plan}
+use Rattle.verdict.specs.ErrorRows.{ErrorsOf, Allowed}
 use Rattle.reaching.specs.Reaching.{
   Reached,
   Choice,
-  here,
-  nowhere,
-  already,
-  forced,
   Aimed,
   no_failed,
   picked,
@@ -28,7 +24,7 @@ use Rattle.reaching.specs.Reaching.{
   fit,
   asked_cell,
 }
-use Rattle.reaching.proofs.Numbers.{picked_reaches, picked_none}
+use Rattle.reaching.proofs.Numbers.{some_not_none, picked_reaches, picked_none}
 use Rattle.reaching.proofs.CellLaws.{cell_eq, own_cell, other_cell, file_cell}
 use Rattle.verdict.proofs.Smallest.{each_least, own_fails, fails_least}
 use Rattle.verdict.proofs.LentIsTable.{
@@ -41,10 +37,6 @@ use Rattle.verdict.proofs.LentIsTable.{
   allows_reached,
   reached_allows,
 }
-
--- the marks allow an error by the row at g, ls
-abbrev pub Allowed : Table → List ℕ → ℕ → ℕ → List ℕ → Type 0
-Allowed T m row g ls = Allows T (Marked T m) (record { row = row; shared = g; locals = ls })
 
 -- they allow none by the row at g
 abbrev pub NoneAt : Table → List ℕ → ℕ → ℕ → Type 0
@@ -59,17 +51,18 @@ pub record AimedAt (s : Plan) (failed : ℕ) (rows : List ℕ) (n : ℕ) (m : Li
   pub row_le : row ≤ n
   pub g_lt : g < s.g
   pub u_lt : u < s.n
-  pub aimed : Aimed s failed rows m row g u
+  pub aimed : Aimed s failed rows m row g (Some u)
 
-pub aimed_lt : {s : Plan} {failed : ℕ} {rows m : List ℕ} {row g u : ℕ} → 0 < s.n → Aimed s failed rows m row g u → ¬ (u ≡ s.n) → u < s.n
-aimed_lt p (no_failed z e q) ne = absurd (ne q)
-aimed_lt p (picked k z fk (already l f none)) ne = l
-aimed_lt p (picked k z fk (forced x (here l a h))) ne = l
-aimed_lt p (picked k z fk (forced x (nowhere e h))) ne = absurd (ne e)
-aimed_lt p (unfit i z c q) ne = absurd (ne q)
-aimed_lt p (fit i z c q) ne = omega arith
+aimed_lt : {s : Plan} {failed : ℕ} {rows m : List ℕ} {row g u : ℕ} → 0 < s.n → Aimed s failed rows m row g (Some u) → u < s.n
+aimed_lt p (no_failed z e q) = absurd (some_not_none q)
+aimed_lt p (picked k z fk h) = (picked_reaches h).0
+aimed_lt p (unfit i z c q) = absurd (some_not_none q)
+aimed_lt {u = u} p (fit i z c q) = let e : u ≡ 0 = cc in omega arith
 
 module _ {T : Table} {s : Plan} {failed : ℕ} {rows : List ℕ} {n : ℕ} (of : ErrorsOf T s failed rows n) {m : List ℕ} {row g : ℕ} where
+  pub aimed_at : {u : ℕ} → row ≤ n → g < s.g → Aimed s failed rows m row g (Some u) → AimedAt s failed rows n m row g u
+  aimed_at r l a = record { row_le = r; g_lt = l; u_lt = aimed_lt (some_thread of) a; aimed = a }
+
   -- what an allowed list has: for row 0 a thread that reaches the failed store k, and for a row of the file a store for each cell
   fails_reached : {k : ℕ} → row ≡ 0 → failed ≡ suc k → (ls : List ℕ) → Allowed T m row g ls
       → (t : ℕ) × (t < s.n) × (get_or ls t 0 ≡ k) × Reached s m g t k
@@ -86,11 +79,11 @@ module _ {T : Table} {s : Plan} {failed : ℕ} {rows : List ℕ} {n : ℕ} (of :
         reached = (allows_reached of a).reached t l;
       }
 
-  pub unaimed_none : {u : ℕ} → Aimed s failed rows m row g u → u ≡ s.n → NoneAt T m row g
-  unaimed_none (no_failed z e q) uq ls a = omega (arith, (from_row_0 of a.erroneous z).here)
-  unaimed_none (picked k z fk p) uq ls a = let (t, tl, e, r) = fails_reached z fk ls a in picked_none p uq t tl r
-  unaimed_none (unfit i z c q) uq ls a = c (from_file_row of a.erroneous z).shared
-  unaimed_none (fit i z c q) uq ls a = omega (arith, some_thread of)
+  pub unaimed_none : Aimed s failed rows m row g None → NoneAt T m row g
+  unaimed_none (no_failed z e q) ls a = omega (arith, (from_row_0 of a.erroneous z).here)
+  unaimed_none (picked k z fk p) ls a = let (t, tl, e, r) = fails_reached z fk ls a in picked_none p t tl r
+  unaimed_none (unfit i z c q) ls a = c (from_file_row of a.erroneous z).shared
+  unaimed_none (fit i z c q) ls a = absurd (some_not_none (sym q))
 
   module _ {u : ℕ} (at : AimedAt s failed rows n m row g u) where
     ul : u < s.n
@@ -100,22 +93,22 @@ module _ {T : Table} {s : Plan} {failed : ℕ} {rows : List ℕ} {n : ℕ} (of :
     pub stuck_none : (t : ℕ) → t < s.n → ((l : ℕ) → ¬ StoreFor s failed rows m row g u t l) → NoneAt T m row g
     stuck_none t tl none ls a = go at.aimed (ℕ_discrete t u)
       where
-        go : Aimed s failed rows m row g u → Dec (t ≡ u) → ⊥
-        go (no_failed z e q) d = omega (arith, ul)
-        go (picked k z fk p) (yes e) = none k (record { fits = inr (own_cell failed rows z e ∙ fk); reached = rw e (picked_reaches p ul) })
+        go : Aimed s failed rows m row g (Some u) → Dec (t ≡ u) → ⊥
+        go (no_failed z e q) d = some_not_none q
+        go (picked k z fk p) (yes e) = none k (record { fits = inr (own_cell failed rows z e ∙ fk); reached = rw e (picked_reaches p).1 })
         go (picked k z fk p) (no ne) =
             none (get_or ls t 0) (record { fits = inl (other_cell failed rows z ne); reached = (allows_reached of a).reached t tl })
-        go (unfit i z c q) d = omega (arith, ul)
+        go (unfit i z c q) d = some_not_none q
         go (fit i z c q) d = none (get_or ls t 0) (file_stores u z ls a t tl)
 
     -- each thread is in its smallest
     module _ (ls : List ℕ) (count : length ls ≡ s.n) (all : (t : ℕ) → t < s.n → First (StoreFor s failed rows m row g u t) (get_or ls t 0)) where
-      erroneous : Aimed s failed rows m row g u → Erroneous T g ls row
-      erroneous (no_failed z e q) = absurd (omega (arith, ul))
+      erroneous : Aimed s failed rows m row g (Some u) → Erroneous T g ls row
+      erroneous (no_failed z e q) = absurd (some_not_none q)
       erroneous (picked k z fk p) =
           let e = own_fails (asked_cell failed rows row u) ls count all (own_cell failed rows z refl ∙ fk) (λ t. other_cell failed rows z) ul in
           rw z (to_row_0 of (record { t = u; t_lt = ul; here = fk ∙ ap suc (sym e) }))
-      erroneous (unfit i z c q) = absurd (omega (arith, ul))
+      erroneous (unfit i z c q) = absurd (some_not_none q)
       erroneous (fit i z c q) =
           rw z
           (to_file_row of (omega (arith, at.row_le))
@@ -131,11 +124,11 @@ module _ {T : Table} {s : Plan} {failed : ℕ} {rows : List ℕ} {n : ℕ} (of :
           h : EachReaches s m g vs
           h = allows_reached of a
 
-          go : Aimed s failed rows m row g u → ls ≼ vs
-          go (no_failed z e q) = absurd (omega (arith, ul))
+          go : Aimed s failed rows m row g (Some u) → ls ≼ vs
+          go (no_failed z e q) = absurd (some_not_none q)
           go (picked k z fk p) =
               let (v, vl, e, r) = fails_reached z fk vs a in
               fails_least (asked_cell failed rows row u) ls count all (own_cell failed rows z refl ∙ fk) (λ t. other_cell failed rows z) ul p vs
               h.reached v vl e h.count
-          go (unfit i z c q) = absurd (omega (arith, ul))
+          go (unfit i z c q) = absurd (some_not_none q)
           go (fit i z c q) = each_least (asked_cell failed rows row u) ls count all vs h.count (file_stores u z vs a)

@@ -3,16 +3,17 @@
 -- which they agree. Every thread but u is in its smallest store, so let the place be u. If k is u's own smallest store, the list has none
 -- smaller there. Else k is no thread's smallest, and u is the last that reaches it. So v is not after u. It is not before u either: there the
 -- lists agree, and ours has smallest stores. So v is u, and the list has k there.
-use mathlib.Core.Path.{◌≡◌, sym, ap, ◌∙◌}
+use mathlib.Core.Path.{◌≡◌, sym, ap, subst, ◌∙◌}
 use mathlib.Core.Logic.{inl}
 use mathlib.Core.List.{List}
 use Prim.Native.Nat.{ℕ, suc, ◌≤◌, ◌<◌}
 use native.Mathlib.Decide.{dec_lt, ℕ_discrete}
 use native.Mathlib.Omega.{arith}
+use Rattle.std.proofs.Common.{Some}
 use lib.ListN.{length, get_or}
 use Rattle.model.specs.Verdict.{◌≼◌}
 use Rattle.model.specs.Claims.{First}
-use Rattle.reaching.specs.Reaching.{Choice, here, nowhere, Picked, already, forced}
+use Rattle.reaching.specs.Reaching.{Choice, Picked, already, forced}
 use Rattle.verdict.proofs.Lists.{Agree, ≼-where_agree}
 use Rattle.reaching.proofs.Numbers.{first_le}
 use Rattle.reaching.proofs.CellLaws.{cell_one}
@@ -35,12 +36,11 @@ module _ {n : ℕ} {R : ℕ → ℕ → Type 0} (C : ℕ → ℕ) (ls : List ℕ
         record { here = x.here.reached; none = λ q l h. x.none q l (record { fits = inl (others t ne); reached = h }) }
 
     -- a list in which some thread v is in k
-    module _ (p : Picked R n k u) (vs : List ℕ) (reached : (t : ℕ) → t < n → R t (get_or vs t 0)) (v : ℕ) (vl : v < n)
+    module _ (p : Picked R n k (Some u)) (vs : List ℕ) (reached : (t : ℕ) → t < n → R t (get_or vs t 0)) (v : ℕ) (vl : v < n)
         (fails : get_or vs v 0 ≡ k) where
-      own_le : Picked R n k u → Agree ls vs u → k ≤ get_or vs u 0
-      own_le (already l f none) same = first_le f (reached u ul)
-      own_le (forced none (nowhere e h)) same = absurd (omega arith)
-      own_le (forced none (here l a h)) same = go (dec_lt u v) (dec_lt v u)
+      own_le : Picked R n k (Some u) → Agree ls vs u → k ≤ get_or vs u 0
+      own_le (already t e l f none) same = let own : u ≡ t = cc in first_le (subst (λ t. First (R t) k) (sym own) f) (reached u ul)
+      own_le (forced none (l, a, h)) same = go (dec_lt u v) (dec_lt v u)
         where
           go : Dec (u < v) → Dec (v < u) → k ≤ get_or vs u 0
           go (yes x) y = absurd (h v x vl (rw fails at (reached v vl)))

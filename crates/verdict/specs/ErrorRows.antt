@@ -1,10 +1,11 @@
 -- What the search asks and answers: the lent bytes are a table's error rows, and the answer is the verdict on the facts that a memory marks
 -- (01, "The rules"). Only the contract of `judge`, which asks for such rows, and those of private functions cite it.
-use Rattle.std.specs.Prelude.{◌≡◌, List, ℕ, ◌<◌, length, get_or}
+use Rattle.std.specs.Prelude.{◌≡◌, List, ℕ, ◌<◌, ◌≤◌, length, get_or, take, Option, Some, None}
 use Rattle.files.specs.Table.{Table, Sound, Error, error_cells}
+use Rattle.model.specs.Errors.{Allows}
+use Rattle.model.specs.Verdict.{◌≼◌}
 use Rattle.model.specs.Memory.{Marked}
-use Rattle.positions.specs.declared.plan.Plan.{Plan}
-use Rattle.positions.specs.Plans.{plan_of}
+use Rattle.positions.specs.Plans.{Plan, plan_of}
 use Rattle.reaching.specs.Reaching.{row_cell}
 use Rattle.verdict.specs.declared.search.Verdict.{Verdict}
 use Rattle.verdict.specs.Judged.{Answers}
@@ -21,3 +22,21 @@ pub record ErrorsOf (T : Table) (s : Plan) (failed : ℕ) (rows : List ℕ) (n :
 -- r is the verdict on the facts that a memory marks
 abbrev pub Judged : Table → List ℕ → Verdict → Type 0
 Judged T mem r = Answers T (Marked T mem) r
+
+-- ---- one row at one shared store
+
+-- the marks allow an error by the row at g, ls
+abbrev pub Allowed : Table → List ℕ → ℕ → ℕ → List ℕ → Type 0
+Allowed T m row g ls = Allows T (Marked T m) (record { row = row; shared = g; locals = ls })
+
+-- the first of the four local stores, as many as there are threads, are the smallest list that the row allows at g; past these stands 0
+pub record Smallest (T : Table) (m : List ℕ) (row g : ℕ) (ls : List ℕ) : Type 0 where
+  pub four : length ls ≡ 4
+  pub allowed : Allowed T m row g (take T.n ls)
+  pub least : (vs : List ℕ) → Allowed T m row g vs → take T.n ls ≼ vs
+  pub zeros : (t : ℕ) → T.n ≤ t → get_or ls t 0 ≡ 0
+
+-- what is found for the row at g: the smallest list, or that it allows none
+abbrev pub Found : Table → List ℕ → ℕ → ℕ → Option (List ℕ) → Type 0
+Found T m row g None = (ls : List ℕ) → ¬ Allowed T m row g ls
+Found T m row g (Some ls) = Smallest T m row g ls

@@ -1,5 +1,5 @@
 -- What an answer of the search says of a table: the verdict on a set of facts (01, "The rules").
-use Rattle.std.specs.Prelude.{◌≡◌, [], ◌∷◌, ℕ, ◌≤◌, get_or, take}
+use Rattle.std.specs.Prelude.{◌≡◌, ℕ, ◌≤◌, length, get_or, take}
 use Rattle.std.proofs.Math.Option.{Option, none, some}
 use Rattle.files.specs.Table.{Table}
 use Rattle.model.specs.Rules.{Fact}
@@ -11,12 +11,12 @@ use Rattle.verdict.specs.declared.search.Verdict.TheVariants.{Safe, Possible}
 -- the witness that an answer gives of n threads
 abbrev pub shown : ℕ → Verdict → Option Witness
 shown n Safe = none
-shown n (Possible row g l0 l1 l2 l3) = some (record { row = row; shared = g; locals = take n (l0 ∷ l1 ∷ l2 ∷ l3 ∷ []) })
+shown n (Possible w) = some (record { row = w.row; shared = w.g; locals = take n w.locals })
 
--- past the n threads stands 0
+-- four local stores stand there, and past the n threads 0
 abbrev pub Padded : ℕ → Verdict → Type 0
 Padded n Safe = Unit {0}
-Padded n (Possible row g l0 l1 l2 l3) = (t : ℕ) → n ≤ t → get_or (l0 ∷ l1 ∷ l2 ∷ l3 ∷ []) t 0 ≡ 0
+Padded n (Possible w) = (length w.locals ≡ 4) × ((t : ℕ) → n ≤ t → get_or w.locals t 0 ≡ 0)
 
 -- r is the verdict on the set S of facts
 pub record Answers (T : Table) (S : Fact → Type 0) (r : Verdict) : Type 0 where

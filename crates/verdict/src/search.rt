@@ -1,72 +1,56 @@
 // The search for the smallest witness: "smallest row number, then smallest g, then the smallest list of local stores" (document 01). Rows,
 // shared stores and threads are searched in ascending order, and the search is left at the first witness.
-ghost use Rattle.std.specs.Prelude.{◌≡◌, ◌*◌, ◌≤◌, length, get_or};
+ghost use Rattle.std.specs.Prelude.{◌<◌, ◌≤◌};
 ghost use Rattle.files.specs.Table.{Table};
-ghost use Rattle.store.specs.Marking.{room};
-ghost use Rattle.verdict.specs.ErrorRows.{ErrorsOf, Judged};
+ghost use Rattle.verdict.specs.ErrorRows.{ErrorsOf, Found, Judged};
 
-use positions::plan::Plan;
-use reaching::reach::least;
-use reaching::row_cells::{aim, cell_of};
+use reaching::reach::Facts;
+use reaching::row_cells::ErrorRows;
 
-// The verdict. The witness of a possible error is its row, its shared store g, and the local stores of threads 0 to 3, with 0 for a thread
-// that is not there.
-#[derive(Clone, Copy)]
+// A witness of an error: its row, its shared store, and the local stores of threads 0 to 3, with 0 for a thread that is not there.
+#[derive(Clone, Copy, PartialEq, Eq)]
+pub struct Witness {
+    pub row: usize,
+    pub g: usize,
+    pub locals: [usize; 4],
+}
+
+// The verdict. An enum of its own: as an Option<Witness>, None would read as "no verdict".
+#[derive(Clone, Copy, PartialEq, Eq)]
 pub enum Verdict {
     Safe,
-    Possible {
-        row: usize,
-        g: usize,
-        l0: usize,
-        l1: usize,
-        l2: usize,
-        l3: usize,
-    },
+    Possible(Witness),
 }
 
-// The verdict with the witness of row and g and the local stores ls.
-fn found(row: usize, g: usize, ls: [usize; 4]) -> Verdict
-    ensures { result ≡ Verdict.Possible row g (get_or ls 0 0) (get_or ls 1 0) (get_or ls 2 0) (get_or ls 3 0) }
+// The smallest list of local stores that a row allows at g, if it allows any there.
+fn smallest(facts: &Facts, errors: &ErrorRows, row: usize, g: usize) -> Option<[usize; 4]>
+    requires { ((T : Table) × ErrorsOf T facts.now.plan errors.now.failed errors.now.rows.now errors.now.n) × (row ≤ errors.now.n)
+        × (g < facts.now.plan.g) }
+    ensures { (T : Table) → ErrorsOf T facts.now.plan errors.now.failed errors.now.rows.now errors.now.n
+        → Found T facts.now.mem.now row g result }
 {
-    let l0 = ls[0];
-    let l1 = ls[1];
-    let l2 = ls[2];
-    let l3 = ls[3];
-    Verdict::Possible {
-        row: row,
-        g: g,
-        l0: l0,
-        l1: l1,
-        l2: l2,
-        l3: l3,
+    let plan = facts.plan;
+    let u = errors.aim(facts, row, g)?;
+    let mut locals = [0; 4];
+    for t in 0..plan.n {
+        let cell = errors.cell_of(row, u, t);
+        locals[t] = facts.least(t, g, cell)?;
     }
+    Some(locals)
 }
 
-// The verdict on the facts that mem marks, of a table with plan s, the failed cell and n error rows of five bytes.
-pub fn judge(s: Plan, failed: usize, rows: &[u8], n: usize, mem: &[u8]) -> Verdict
-    requires { ((T : Table) × ErrorsOf T s failed rows.now n) × (5 * n ≤ length rows.now) × (s.w ≤ room mem.now) }
-    ensures { (T : Table) → ErrorsOf T s failed rows.now n → Judged T mem.now result }
+// The verdict on the facts that a memory marks, of a table with these error rows.
+pub fn judge(facts: &Facts, errors: &ErrorRows) -> Verdict
+    requires { (T : Table) × ErrorsOf T facts.now.plan errors.now.failed errors.now.rows.now errors.now.n }
+    ensures { (T : Table) → ErrorsOf T facts.now.plan errors.now.failed errors.now.rows.now errors.now.n
+        → Judged T facts.now.mem.now result }
 {
-    let threads = s.n;
-    let shared = s.g;
-    let locals = s.l;
-    let last = n + 1;
-    'rows: for row in 0..last {
-        'shared: for g in 0..shared {
-            let u = aim(s, failed, rows, n, mem, row, g);
-            if u == threads {
-                continue 'shared;
+    let plan = facts.plan;
+    for row in 0..errors.n + 1 {
+        for g in 0..plan.g {
+            if let Some(locals) = smallest(facts, errors, row, g) {
+                return Verdict::Possible(Witness { row, g, locals });
             }
-            let mut ls: [usize; 4] = [0; 4];
-            'threads: for t in 0..threads {
-                let c = cell_of(failed, rows, n, row, u, t);
-                let l = least(s, mem, t, g, c);
-                if l == locals {
-                    continue 'shared;
-                }
-                ls[t] = l;
-            }
-            return found(row, g, ls);
         }
     }
     Verdict::Safe
