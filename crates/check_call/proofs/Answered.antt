@@ -15,8 +15,7 @@ use Rattle.model.proofs.Memory.{held_before}
 use Rattle.model.proofs.FactCounts.{relations_exist, fact_count_exists, beyond_exceeds}
 use Rattle.store.proofs.MarkLaws.{first_cleared}
 use Rattle.verdict.proofs.Answered.{answers_exist}
-use Rattle.check_call.specs.declared.answer.Answer.{Answer}
-use Rattle.check_call.specs.declared.answer.Answer.TheVariants.{Done, Refused, Short, Over}
+use Rattle.check_call.specs.Answer.{Answer, Done, Refused, Short, Over}
 use Rattle.check_call.specs.Checking.{OfTable, short, over, done, Checked, refused, read}
 
 module _ {T : Table} (sound : Sound T) (budget : ℕ) (m : List ℕ) where

@@ -28,8 +28,7 @@ use Rattle.model.proofs.FactCounts.{exceeds_below_W}
 use Rattle.model.proofs.Unique.{fact_count_same}
 use Rattle.verdict.specs.declared.search.Verdict.{Verdict}
 use Rattle.verdict.proofs.Answers.{answers_same}
-use Rattle.check_call.specs.declared.answer.Answer.{Answer}
-use Rattle.check_call.specs.declared.answer.Answer.TheVariants.{Done, Over}
+use Rattle.check_call.specs.Answer.{Answer, Done, Over}
 use Rattle.check_call.specs.Checking.{Finished, OfTable, short, over, done, Checked, read, CheckDone}
 use Rattle.check_call.proofs.Unique.{was_read}
 

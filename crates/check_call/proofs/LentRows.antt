@@ -16,11 +16,10 @@ use Rattle.files.specs.Table.{Table, Rows, step_cells, push_cells, pop_cells, er
 use Rattle.files.specs.Header.{four_of}
 use Rattle.lists.specs.Lists.{flat}
 use Rattle.files.proofs.TableLaws.{cell_stands}
-use Rattle.positions.specs.declared.plan.Plan.{Plan}
 use Rattle.store.specs.declared.rows.Row.{Row}
 use Rattle.store.specs.declared.rows.RowCounts.{RowCounts}
 use Rattle.store.specs.Reading.{row_of, as_step, as_push, as_pop, Same, Reads}
-use Rattle.positions.specs.Plans.{sized, plan_of}
+use Rattle.positions.specs.Plans.{Plan, sized, plan_of}
 use Rattle.engine.specs.Given.{RowsOf, StartOf}
 use Rattle.verdict.specs.ErrorRows.{ErrorsOf}
 use Rattle.check_call.specs.Lent.{Laid, Stored}
@@ -149,11 +148,12 @@ module _ {T : Table} {h : Header} {k : Counts} {st pu po er : List ℕ} (s : Sto
   start : h.start ≡ T.g₀
   start = ap (λ (x : Header). x.start) s.header
 
-  pub stored_begins : StartOf T h.start h.firsts
-  stored_begins =
+  -- g is the header's initial shared store
+  pub stored_begins : {g : ℕ} → g ≡ h.start → StartOf T g h.firsts
+  stored_begins e =
       record {
         long = omega (arith, s.sound.n.1, ap (λ (x : Header). length x.firsts) s.header);
-        shared = sym start;
+        shared = sym (e ∙ start);
         local = λ t i. sym (first_local t i);
       }
 
@@ -169,6 +169,3 @@ module _ {T : Table} {h : Header} {k : Counts} {st pu po er : List ℕ} (s : Sto
   pub stored_sizes : (0 < h.sizes.threads) × (h.sizes.threads ≤ 4) × (0 < h.sizes.shared) × (h.sizes.shared ≤ 16)
       × (0 < h.sizes.locals) × (h.sizes.locals ≤ 16) × (h.sizes.frames ≤ 8)
   stored_sizes = rw s.header (s.sound.n.0, s.sound.n.1, s.sound.G.0, s.sound.G.1, s.sound.L.0, s.sound.L.1, s.sound.F)
-
-  pub stored_errors_long : 5 * k.errors ≤ length er
-  stored_errors_long = omega (arith, laid_long s.sound.errors s.errors (ap (λ (x : Counts). x.errors) s.counts))

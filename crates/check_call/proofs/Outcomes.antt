@@ -4,6 +4,7 @@
 use mathlib.Core.Path.{◌≡◌, sym, ap, ◌∙◌}
 use mathlib.Core.List.{List}
 use Prim.Native.Nat.{ℕ, ◌≤◌, ◌<◌}
+use Rattle.std.specs.Prelude.{Some, None}
 use native.Mathlib.Omega.{arith}
 use lib.ListN.{length, take, drop, replicate}
 use lib.Seq.{length-take-le, get_or-take}
@@ -11,17 +12,14 @@ use Rattle.files.specs.Table.{Table, Sound, W}
 use Rattle.model.specs.Rules.{Fact}
 use Rattle.model.specs.Memory.{Holds, Relations, FactCount, Exceeds}
 use Rattle.store.specs.Marking.{Clear}
-use Rattle.positions.specs.declared.plan.Plan.{Plan}
-use Rattle.positions.specs.Plans.{plan_of}
+use Rattle.positions.specs.Plans.{Plan, plan_of}
 use Rattle.store.proofs.MarkLaws.{clear_zeros}
 use Rattle.positions.proofs.PlanIsModel.{w_is}
-use Rattle.engine.specs.declared.run.Answer.{Answer}
-use Rattle.engine.specs.declared.run.Answer.TheVariants as Ends
 use Rattle.engine.specs.Answers.{Ran}
 use Rattle.verdict.specs.declared.search.Verdict.{Verdict}
 use Rattle.verdict.specs.ErrorRows.{Judged}
 use Rattle.verdict.proofs.Answers.{judged_least}
-use Rattle.check_call.specs.declared.answer.Answer.TheVariants.{Done, Short, Over}
+use Rattle.check_call.specs.Answer.{Done, Short, Over}
 use Rattle.check_call.specs.Checking.{OfTable, short, over, done}
 
 module _ (T : Table) (budget : ℕ) (m m' : List ℕ) (room : W T ≤ length m) (long : length m' ≡ length m) (rest : drop (W T) m' ≡ drop (W T) m) where
@@ -48,20 +46,18 @@ module _ (T : Table) (budget : ℕ) (m m' : List ℕ) (room : W T ≤ length m) 
 pub w_by : (T : Table) {s : Plan} → s ≡ plan_of T → s.w ≡ W T
 w_by T plan = ap (λ (x : Plan). x.w) plan ∙ w_is T
 
-module _ (T : Table) (s : Plan) (budget : ℕ) (m m' : List ℕ) (sound : Sound T) (plan : s ≡ plan_of T) (room : s.w ≤ length m)
-    (long : length m' ≡ length m) (rest : drop s.w m' ≡ drop s.w m) where
-  pub answer_over : {r : Answer} → r ≡ Ends.Over → Ran T budget r (take s.w m') → OfTable T budget m (Over budget) m'
-  answer_over q ran =
-      let e = w_by T plan in
-      let (c, x) = rw (q, e) at ran in
-      over_here T budget m m' (rw e at room) long (rw e at rest) c x
+module _ {T : Table} {w budget : ℕ} {m m' : List ℕ} (sound : Sound T) (wide : w ≡ W T) (room : w ≤ length m)
+    (long : length m' ≡ length m) (rest : drop w m' ≡ drop w m) where
+  pub answer_over : Ran T budget None (take w m') → OfTable T budget m (Over budget) m'
+  answer_over ran =
+      let (c, x) = rw wide at ran in
+      over_here T budget m m' (rw wide at room) long (rw wide at rest) c x
 
-  pub answer_done : {r : Answer} {count : ℕ} {verdict : Verdict} → r ≡ Ends.Done count → Ran T budget r (take s.w m')
-      → Judged T m' verdict → OfTable T budget m (Done count verdict) m'
-  answer_done q ran j =
-      let e = w_by T plan in
-      let (h, k, l) = rw (q, e) at ran in
-      done_here T budget m m' (rw e at room) long (rw e at rest) sound h k l j
+  pub answer_done : {count : ℕ} {verdict : Verdict} → Ran T budget (Some count) (take w m') → Judged T m' verdict
+      → OfTable T budget m (Done count verdict) m'
+  answer_done ran j =
+      let (h, k, l) = rw wide at ran in
+      done_here T budget m m' (rw wide at room) long (rw wide at rest) sound h k l j
 
 -- a memory that is shorter than the room
 pub answer_short : {T : Table} {budget w : ℕ} {m : List ℕ} → w ≡ W T → length m < w → OfTable T budget m (Short w) m

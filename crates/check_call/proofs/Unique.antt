@@ -1,5 +1,5 @@
 -- Two results of the check that its contract allows, for one file, budget and memory, are equal: the answer with its verdict and witness, and
--- every byte of the memory. So are two numbers, origins and values of one answer.
+-- every byte of the memory. So are two numbers, origins and values of one answer, and two Ws, two plans and two memories of facts of one stored table.
 use mathlib.Core.Path.{◌≡◌, refl, sym, ap, ◌∙◌}
 use mathlib.Core.List.{List}
 use Prim.Native.Nat.{ℕ}
@@ -7,7 +7,7 @@ use native.Mathlib.Omega.{arith}
 use lib.ListN.{length, take, drop}
 use contract.Lifetimes.{Lfts}
 use denote.Triple.Clauses.{AtExit}
-use borrow.Fn.Kinds.{Dens, ended_of}
+use borrow.Fn.Kinds.{Dens, res_t, ended_of}
 use Rattle.numbers.specs.declared.refusals.Refusal.{Refusal}
 use Rattle.numbers.specs.Reading.{Out, got, bad}
 use Rattle.numbers.proofs.ReadingLaws.{never}
@@ -17,16 +17,33 @@ use Rattle.files.specs.File.{table_at}
 use Rattle.files.proofs.TableLaws.{table_sound}
 use Rattle.model.proofs.Memory.{exceeds_count}
 use Rattle.model.proofs.Unique.{holds_same, fact_count_same}
+use Rattle.positions.specs.Plans.{Plan}
+use Rattle.store.specs.declared.rows.RowLists.{RowLists}
 use Rattle.store.proofs.Unique.{parts_same}
+use Rattle.reaching.specs.declared.reach.Facts.{Facts}
+use Rattle.reaching.specs.declared.row_cells.ErrorRows.{ErrorRows}
 use Rattle.verdict.proofs.Answers.{answers_same}
-use Rattle.check_call.specs.declared.answer.Answer.{Answer}
-use Rattle.check_call.specs.declared.answer.Answer.TheVariants.{Done, Refused}
+use Rattle.check_call.specs.Answer.{Answer, Done, Refused}
 use Rattle.check_call.proofs.answer.reply_of.Reads as reply-of
 use Rattle.check_call.proofs.answer.reply_of.Kinds as reply-of-kinds
-use Rattle.check_call.proofs.answer.plain_reply.Reads as plain-reply
-use Rattle.check_call.proofs.answer.plain_reply.Kinds as plain-reply-kinds
-use Rattle.check_call.proofs.answer.refusal_reply.Reads as refusal-reply
-use Rattle.check_call.proofs.answer.refusal_reply.Kinds as refusal-reply-kinds
+use Rattle.check_call.proofs.answer.Reply.plain.Reads as plain-reply
+use Rattle.check_call.proofs.answer.Reply.plain.Kinds as plain-reply-kinds
+use Rattle.check_call.proofs.answer.Reply.told.Reads as refusal-reply
+use Rattle.check_call.proofs.answer.Reply.told.Kinds as refusal-reply-kinds
+use Rattle.check_call.proofs.stored.StoredTable.w.Reads as w
+use Rattle.check_call.proofs.stored.StoredTable.w.Kinds as w-kinds
+use Rattle.check_call.proofs.stored.StoredTable.plan.Reads as plan
+use Rattle.check_call.proofs.stored.StoredTable.plan.Kinds as plan-kinds
+use Rattle.check_call.proofs.stored.StoredTable.lists.Reads as lists
+use Rattle.check_call.proofs.stored.StoredTable.lists.Kinds as lists-kinds
+use Rattle.check_call.proofs.stored.StoredTable.facts.Reads as facts
+use Rattle.check_call.proofs.stored.StoredTable.facts.Kinds as facts-kinds
+use Rattle.check_call.proofs.stored.StoredTable.errors.Reads as errors
+use Rattle.check_call.proofs.stored.StoredTable.errors.Kinds as errors-kinds
+use Rattle.check_call.proofs.answer.CheckRefusalFromRefusal.from.Reads as refusal-from
+use Rattle.check_call.proofs.answer.CheckRefusalFromRefusal.from.Kinds as refusal-from-kinds
+use Rattle.check_call.proofs.answer.ReplyFromCheckRefusal.from.Reads as reply-from
+use Rattle.check_call.proofs.answer.ReplyFromCheckRefusal.from.Kinds as reply-from-kinds
 use Rattle.check_call.proofs.check.check.Reads as check
 use Rattle.check_call.proofs.check.check.Kinds as check-kinds
 use Rattle.check_call.specs.Checking.{OfTable, short, over, done, Checked, refused, read}
@@ -108,3 +125,39 @@ plain_reply_fixes κs a x x' s s' = same
 
 pub refusal_reply_fixes : Fixes refusal-reply-kinds.ps refusal-reply-kinds.r refusal-reply.Post
 refusal_reply_fixes κs a x x' s s' = same
+
+pub check_refusal_fixes : Fixes refusal-from-kinds.ps refusal-from-kinds.r refusal-from.Post
+check_refusal_fixes κs a x x' s s' = same
+
+pub reply_of_refusal_fixes : Fixes reply-from-kinds.ps reply-from-kinds.r reply-from.Post
+reply_of_refusal_fixes κs a x x' s s' = same
+
+-- ---- what a stored table lends: every number and byte of it
+
+pub w_fixes : Fixes w-kinds.ps w-kinds.r w.Post
+w_fixes κs a x x' s s' p q = same p.0 q.0
+
+pub plan_fixes : (κs : Lfts 2) (a : Dens κs plan-kinds.ps) (x x' : Plan) (s s' : AtExit (ended_of 2 plan-kinds.ps plan-kinds.r) κs)
+    → plan.Pre κs a → plan.Post κs a x s → plan.Post κs a x' s' → x ≡ x'
+plan_fixes κs a x x' s s' (T, st) p q = same (p T st) (q T st)
+
+pub lists_fixes : (κs : Lfts 2) (a : Dens κs lists-kinds.ps) (x x' : RowLists) (s s' : AtExit (ended_of 2 lists-kinds.ps lists-kinds.r) κs)
+    → lists.Post κs a x s → lists.Post κs a x' s'
+    → (x.counts ≡ x'.counts) × (x.steps.now ≡ x'.steps.now) × (x.pushes.now ≡ x'.pushes.now) × (x.pops.now ≡ x'.pops.now)
+lists_fixes κs a x x' s s' p q =
+    let (steps, pushes, pops) = p.0.counts in
+    let (steps', pushes', pops') = q.0.counts in (
+      λ i. record { steps = same steps steps' i; pushes = same pushes pushes' i; pops = same pops pops' i },
+      same p.0.steps q.0.steps,
+      same p.0.pushes q.0.pushes,
+      same p.0.pops q.0.pops,
+    )
+
+pub facts_fixes : (κs : Lfts 3) (a : Dens κs facts-kinds.ps) (x x' : Facts) (s s' : AtExit (ended_of 3 facts-kinds.ps facts-kinds.r) κs)
+    → facts.Pre κs a → facts.Post κs a x s → facts.Post κs a x' s' → (x.plan ≡ x'.plan) × (x.mem.now ≡ x'.mem.now)
+facts_fixes κs a x x' s s' (T, st, room) p q = (same (p.0 T st) (q.0 T st), same p.1 q.1)
+
+pub errors_fixes : (κs : Lfts 2) (a : Dens κs errors-kinds.ps) (x x' : ErrorRows)
+    (s s' : AtExit (ended_of 2 errors-kinds.ps errors-kinds.r) κs)
+    → errors.Post κs a x s → errors.Post κs a x' s' → (x.failed ≡ x'.failed) × (x.rows.now ≡ x'.rows.now) × (x.n ≡ x'.n)
+errors_fixes κs a x x' s s' p q = (same p.0.0 q.0.0, same p.0.1 q.0.1, same p.0.2 q.0.2)

@@ -9,8 +9,7 @@ use Rattle.model.specs.Memory.{Relations, FactCount, Exceeds}
 use Rattle.store.specs.Clearing.{Cleared}
 use Rattle.verdict.specs.declared.search.Verdict.{Verdict}
 use Rattle.verdict.specs.Judged.{Answers}
-use Rattle.check_call.specs.declared.answer.Answer.{Answer}
-use Rattle.check_call.specs.declared.answer.Answer.TheVariants.{Done, Refused, Short, Over}
+use Rattle.check_call.specs.Answer.{Answer, Done, Refused, Short, Over}
 
 -- The check is done: the count is the number of facts of the least relations, and within the budget. The first W bytes hold these relations,
 -- and the others are as they were. The verdict is theirs, with its smallest witness.

@@ -1,24 +1,20 @@
 -- `check_call::check::check` meets its contract: the reader refuses, or the table that it stored is checked.
-use native.Mathlib.Omega.{arith}
+use Rattle.std.proofs.lemmas.Result.{err_from_is_err_and}
 use Rattle.check_call.specs.Checking.{refused, read}
-use Rattle.check_call.proofs.ReadTable.{ReadAs, read_stored, read_refused}
+use Rattle.check_call.proofs.ReadTable.{read_stored, read_refused}
 use Rattle.check_call.proofs.check.check.Goals as goal
 
-got : (c : goal.After-check_stored-arg-1) → ReadAs c.args.table.now c.read_table-read.result c.read_table-read.new.steps c.read_table-read.new.pushes c.read_table-read.new.pops
-    c.read_table-read.new.errors
-got c =
-    read_stored c.read_table-read.ensures c.in-Accepted.is
-    (omega arith) (omega arith) (omega arith) (omega arith)
+pub returns-in_err-read : goal.returns-in_err-read
+returns-in_err-read c =
+    let (_, is, by) = err_from_is_err_and c.from_residual.result c.from_residual.ensures.1 in
+    rw (is, by) (refused (read_refused c.in_err-read.ensures))
 
 pub check_stored-requires : goal.check_stored-requires
-check_stored-requires c = ((got c).table, (got c).stored)
+check_stored-requires c =
+    let got = read_stored c.new-rows.ensures c.in_ok-read.ensures in
+    (got.table, got.stored)
 
-pub returns-in-Accepted : goal.returns-in-Accepted
-returns-in-Accepted c =
-    let got : ReadAs c.args.table.now c.read_table-read.result c.read_table-read.new.steps c.read_table-read.new.pushes c.read_table-read.new.pops
-    c.read_table-read.new.errors = read_stored c.read_table-read.ensures c.in-Accepted.is
-    (omega arith) (omega arith) (omega arith) (omega arith) in
-    read (got).is (c.check_stored.ensures (got).table (got).stored)
-
-pub returns-in-Refused : goal.returns-in-Refused
-returns-in-Refused c = refused (read_refused c.read_table-read.ensures c.in-Refused.is)
+pub returns : goal.returns
+returns c =
+    let got = read_stored c.new-rows.ensures c.in_ok-read.ensures in
+    read got.is (c.check_stored.ensures got.table got.stored)

@@ -1,73 +1,28 @@
 -- `check_call::check::check_stored` meets its contract: the plan and the lent rows are the table's, so the engine and the verdict answer for it.
-use mathlib.Core.Path.{◌≡◌, ◌∙◌}
-use Prim.Native.Nat.{◌≤◌}
 use native.Mathlib.Omega.{arith}
-use lib.ListN.{length}
-use Rattle.positions.specs.Plans.{plan_of}
-use Rattle.check_call.proofs.LentRows.{stored_rows, stored_begins, stored_errors, stored_w, stored_plan, stored_errors_long}
-use Rattle.check_call.proofs.Outcomes.{w_by, answer_short, answer_over, answer_done}
+use Rattle.check_call.proofs.Outcomes.{answer_short, answer_over, answer_done}
 use Rattle.check_call.proofs.check.check_stored.Goals as goal
 
-own_plan : (a : goal.After-run_in-arg-1) → a.plan_by-s.result ≡ plan_of a.requires.0
-own_plan a =
-    stored_plan a.requires.1 a.plan_by-s.ensures.0
-
-enough : (a : goal.After-run_in-arg-1) → a.plan_by-s.result.w ≤ length a.args.mem.now
-enough a =
-    omega (
-      arith,
-      w_by a.requires.0 (own_plan a),
-      stored_w (a.requires.1),
-      a.w_of-w.ensures,
-      a.if-mem-w.false,
-    )
-
 pub returns-then-mem-w : goal.returns-then-mem-w
-returns-then-mem-w c = λ T st. answer_short (c.w_of-w.ensures ∙ stored_w st) c.if-mem-w.true
+returns-then-mem-w c = λ T st. answer_short (c.w-w.ensures.of_table T st) c.if-mem-w.true
 
 pub run_in-requires : goal.run_in-requires
-run_in-requires c = ((_, stored_rows (c.requires.1) (own_plan c), stored_begins (c.requires.1)), enough c)
+run_in-requires c = let (T, st) = c.requires in ((T, st, c.w-w.ensures.of_table T st), c.if-mem-w.false)
+
+pub facts-requires : goal.facts-requires
+facts-requires c =
+    let (T, st) = c.requires in
+    (T, st, omega (arith, c.w-w.ensures.of_table T st, c.if-mem-w.false, c.run_in.auto.mem))
 
 pub judge-verdict-requires : goal.judge-verdict-requires
-judge-verdict-requires c =
-    let own_plan : c.plan_by-s.result ≡ plan_of c.requires.0 = stored_plan c.requires.1 c.plan_by-s.ensures.0 in
-    let enough : c.plan_by-s.result.w ≤ length c.args.mem.now = omega (
-      arith,
-      w_by c.requires.0 (own_plan),
-      stored_w (c.requires.1),
-      c.w_of-w.ensures,
-      c.if-mem-w.false,
-    ) in (
-      (_, stored_errors (c.requires.1) (own_plan)),
-      stored_errors_long (c.requires.1),
-      omega (arith, enough, c.run_in.auto.mem),
-    )
+judge-verdict-requires c = let (T, st) = c.requires in (T, c.errors.ensures.of_table T _ st (c.facts.ensures.plan T st))
 
-pub returns-in-Done : goal.returns-in-Done
-returns-in-Done c =
-    let own_plan : c.plan_by-s.result ≡ plan_of c.requires.0 = stored_plan c.requires.1 c.plan_by-s.ensures.0 in
-    let enough : c.plan_by-s.result.w ≤ length c.args.mem.now = omega (
-      arith,
-      w_by c.requires.0 (own_plan),
-      stored_w (c.requires.1),
-      c.w_of-w.ensures,
-      c.if-mem-w.false,
-    ) in
-    λ T st. let e = stored_plan st c.plan_by-s.ensures.0 in
-    answer_done T _ _ _ _ st.sound e (enough)
-    c.run_in.auto.mem c.run_in.ensures.rest c.in-Done.is
-    (c.run_in.ensures.ran T (stored_rows st e) (stored_begins st)) (c.judge-verdict.ensures T (stored_errors st e))
+pub returns-in_default : goal.returns-in_default
+returns-in_default c =
+    λ T st. answer_over st.sound (c.w-w.ensures.of_table T st) c.if-mem-w.false c.run_in.auto.mem c.run_in.ensures.rest (c.in_default.ensures.ran T st)
 
-pub returns-in-Over : goal.returns-in-Over
-returns-in-Over c =
-    let own_plan : c.plan_by-s.result ≡ plan_of c.requires.0 = stored_plan c.requires.1 c.plan_by-s.ensures.0 in
-    let enough : c.plan_by-s.result.w ≤ length c.args.mem.now = omega (
-      arith,
-      w_by c.requires.0 (own_plan),
-      stored_w (c.requires.1),
-      c.w_of-w.ensures,
-      c.if-mem-w.false,
-    ) in
-    λ T st. let e = stored_plan st c.plan_by-s.ensures.0 in
-    answer_over T _ _ _ _ st.sound e (enough) c.run_in.auto.mem c.run_in.ensures.rest c.in-Over.is
-    (c.run_in.ensures.ran T (stored_rows st e) (stored_begins st))
+pub returns : goal.returns
+returns c =
+    λ T st.
+    answer_done st.sound (c.w-w.ensures.of_table T st) c.if-mem-w.false c.run_in.auto.mem c.run_in.ensures.rest (c.in-Some.ensures.ran T st)
+    (rw (← c.facts.ensures.same) (c.judge-verdict.ensures T (c.errors.ensures.of_table T _ st (c.facts.ensures.plan T st))))
