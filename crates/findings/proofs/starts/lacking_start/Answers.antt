@@ -1,24 +1,19 @@
--- Each thread before t has its start fact.
-use mathlib.Core.Path.{subst}
-use native.Mathlib.Omega.{arith}
-use Rattle.store.specs.Marking.{Has, Is}
-use Rattle.store.proofs.MarkLaws.{is_false}
-use Rattle.engine.proofs.GivenLaws.{plan_given, start_given}
+-- What `find` answers of the threads is the first that lacks its start fact.
+use mathlib.Core.Path.{ap}
+use Prim.Native.Nat.{ℕ}
+use Rattle.std.proofs.Common.{rules}
+use Rattle.std.proofs.lemmas.Iterator.{first_from_Range}
+use Rattle.positions.specs.Plans.{Plan}
+use Rattle.store.specs.Marking.{Has}
 use Rattle.engine.specs.StartFacts.{start_at}
-use Rattle.findings.proofs.StartMarks.{first_lacking, none_lacking}
+use Rattle.findings.proofs.StartMarks.{started_found}
 use Rattle.findings.proofs.starts.lacking_start.Goals as goal
 
-pub start_at-p-requires : goal.start_at-p-requires
-start_at-p-requires c =
-    let (T, sound, plan, first) = c.requires.0 in
-    (plan_given sound plan, start_given sound plan first, c.loop-t-test.true)
-
-pub returns-then-not-has : goal.returns-then-not-has
-returns-then-not-has c =
-    let looked : let a = c.args in Is (Has a.mem.now (start_at a.s a.g a.locals.now c.loop-t.t)) c.has.result = let m = c.args.mem.now in
-    subst (λ p. Is (Has m p) c.has.result) c.start_at-p.ensures.0 c.has.ensures in
-    let lacks = is_false _ (looked) c.if-not-has.true in
-    λ T sound plan of. first_lacking sound plan of c.loop-t.t c.loop-t-test.true c.loop-t.invariant.1 lacks
-
 pub returns : goal.returns
-returns c = λ T sound plan of. none_lacking sound plan of (λ u l. c.loop-t.invariant.1 u (omega arith))
+returns c =
+    let a = c.args in
+    let m = a.facts.now.mem.now in
+    let Lacks : ℕ → Type 0 = λ t. ¬ Has m (start_at a.facts.now.plan a.g a.locals.now t) in
+    λ T sound plan of.
+    started_found sound plan of m (ap (λ (s : Plan). s.n) c.plan.view_is) c.find.result
+    (first_from_Range _ _ _ _ Lacks (λ t. ¬ Lacks t) c.find.ensures.ran (λ x q k. search rules) (λ x q k. search rules))
