@@ -1,6 +1,6 @@
 -- Laws of a claim that is read, and what the code's answers tell of it.
 --     rest_listed                      where the positions were read to the end of the file, they were read
---     rest_read, _refused              what `rest_at` gives, by the end of the file after its positions
+--     rest_read, _more, _refused       what `rest_at` gives, by where its positions end
 --     claim_counted, _uncounted        what `claim_at` gives, by its count
 --     Read, claim_got                  where a claim was read, its count was, and its positions up to the end of the file
 --     claimed_read                     what the answer of `read_claim` tells
@@ -16,11 +16,9 @@ use Rattle.numbers.specs.declared.refusals.Refusal.{Refusal}
 use Rattle.numbers.specs.declared.refusals.Refusal.TheVariants.{After}
 use Rattle.numbers.specs.Reading.{Out, got, bad, pick}
 use Rattle.numbers.proofs.ReadingLaws.{never, parts}
-use Rattle.reader.specs.declared.ends.End.{End}
-use Rattle.reader.specs.declared.ends.End.TheVariants.{Past, Refused}
-use Rattle.reader.specs.Ends.{end_of, end_after}
-use Rattle.reader.proofs.EndLaws.{end_past, end_refused, end_after_lem}
-use Rattle.claim_reader.specs.declared.reading.Claimed.TheVariants as claimed
+use Rattle.std.specs.Prelude.{Ok, Err}
+use Rattle.reader.specs.Ends.{at_end}
+use Rattle.reader.proofs.EndLaws.{ends_for, goes_on_for}
 use Rattle.claim_reader.specs.ClaimFile.{count_at, positions_at, rest_at, claim_at}
 use Rattle.claim_reader.specs.ClaimAnswers.{IsClaim, claimed_of}
 use Rattle.claim_reader.proofs.PositionLaws.{positions_count}
@@ -43,19 +41,18 @@ module _ (w k : ℕ) (s : List ℕ) (at : ℕ) where
       let z = ended s l.first ps l.place n _ refl l.rest in
       (l.was ∙ z.0, z.1)
 
-  -- the end of the file after the positions, as the code asks for it
-  module _ {p e : End} (listed : p ≡ end_of (positions_at w k 0 0 s at)) (ends : e ≡ end_after p s) where
-    rest_end : e ≡ end_of (rest_at w k s at)
-    unfolding rest_at
-    rest_end = ends ∙ rw listed (end_after_lem s (positions_at w k 0 0 s at) (λ (ps : List ℕ). ps))
+  -- the positions end where no byte is left, where bytes are left, or in a refusal
+  pub rest_read : {ps : List ℕ} {n m : ℕ} → positions_at w k 0 0 s at ≡ got ps n → at_end (tt {0}) s n ≡ got (tt {0}) m → Ok k ≡ claimed_of (rest_at w k s at)
+  unfolding rest_at
+  rest_read {ps} {n} e z = rw (e, ends_for (tt {0}) ps s n z) (ap Ok (sym (positions_count w s k 0 0 at ps n e)))
 
-    pub rest_read : {n : ℕ} → e ≡ Past n → claimed.Read k ≡ claimed_of (rest_at w k s at)
-    rest_read {n} q =
-        let v = end_past (rest_at w k s at) n (sym rest_end ∙ q) in
-        rw v.1 (ap (λ (m : ℕ). claimed.Read m) (sym (positions_count w s k 0 0 at v.0 n (rest_listed v.1).0)))
+  pub rest_more : {ps : List ℕ} {n : ℕ} {r : Refusal} → positions_at w k 0 0 s at ≡ got ps n → at_end (tt {0}) s n ≡ bad r → rest_at w k s at ≡ bad r
+  unfolding rest_at
+  rest_more {ps} {n} e z = rw e (goes_on_for (tt {0}) ps s n z)
 
-    pub rest_refused : {r : Refusal} → e ≡ Refused r → claimed.Refused r ≡ claimed_of (rest_at w k s at)
-    rest_refused {r} q = rw (end_refused (rest_at w k s at) r (sym rest_end ∙ q))
+  pub rest_refused : {r : Refusal} → positions_at w k 0 0 s at ≡ bad r → rest_at w k s at ≡ bad r
+  unfolding rest_at
+  rest_refused e = rw e
 
 -- ---- a claim, by its count
 
@@ -95,24 +92,21 @@ module _ {w : ℕ} {s : List ℕ} (is : IsClaim w s) where
       rw (q, p) at r.listed
 
   -- its count is not refused
-  pub claim_not_bad : {A : Type 0} {r : Refusal} → count_at w s ≡ bad r → A
-  claim_not_bad e =
-      let b = claim_uncounted w s e in
-      let r = is.reads in
-      never (cc)
+  pub claim_count : (k : ℕ) × (at : ℕ) × (count_at w s ≡ got k at)
+  claim_count = let r = claim_got w s is.positions is.next is.reads in (r.k, r.at, r.counted)
 
 -- ---- what the code's answer tells
 
-pub claimed_read : (w : ℕ) (s : List ℕ) (k : ℕ) → claimed.Read k ≡ claimed_of (claim_at w s) → (c : IsClaim w s) × (k ≡ length c.positions)
+pub claimed_read : (w : ℕ) (s : List ℕ) (k : ℕ) → Ok k ≡ claimed_of (claim_at w s) → (c : IsClaim w s) × (k ≡ length c.positions)
 claimed_read w s k e = go (claim_at w s) refl e
   where
-    go : (o : Out (List ℕ)) → claim_at w s ≡ o → claimed.Read k ≡ claimed_of o → (c : IsClaim w s) × (k ≡ length c.positions)
+    go : (o : Out (List ℕ)) → claim_at w s ≡ o → Ok k ≡ claimed_of o → (c : IsClaim w s) × (k ≡ length c.positions)
     go (got ps n) q h = (record { positions = ps; next = n; reads = q }, cc)
     go (bad r) q h = never (cc)
 
-pub claimed_refused : (w : ℕ) (s : List ℕ) (r : Refusal) → claimed.Refused r ≡ claimed_of (claim_at w s) → claim_at w s ≡ bad r
+pub claimed_refused : (w : ℕ) (s : List ℕ) (r : Refusal) → Err r ≡ claimed_of (claim_at w s) → claim_at w s ≡ bad r
 claimed_refused w s r e = go (claim_at w s) e
   where
-    go : (o : Out (List ℕ)) → claimed.Refused r ≡ claimed_of o → o ≡ bad r
+    go : (o : Out (List ℕ)) → Err r ≡ claimed_of o → o ≡ bad r
     go (got ps n) h = never (cc)
     go (bad q) h = cc

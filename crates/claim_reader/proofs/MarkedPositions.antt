@@ -3,17 +3,18 @@
 --     marked_most           they are no more than the positions that are looked at
 --     positions_total       they are as many as the marks are in sum
 --     Coming, coming        the marked positions from a place on: the first of them, and those after it
-use mathlib.Core.Path.{◌≡◌, refl, ◌∙◌}
+use mathlib.Core.Path.{◌≡◌, refl, sym, subst, ◌∙◌}
 use mathlib.Core.List.{List, [], ◌∷◌}
 use Prim.Native.Nat.{ℕ, zero, suc, ◌+◌, ◌-◌, ◌≤◌, ◌<◌}
 use native.Mathlib.Omega.{arith}
 use borrow.Author.Tests.{eq-eqb, ne_eqb}
 use lib.ListN.{length}
+use Rattle.std.specs.Prelude.{Option, Some, None}
 use Rattle.model.specs.Memory.{mark, total}
 use Rattle.model.proofs.Memory.{unmarked}
 use Rattle.store.specs.Marking.{Has, NextMark}
 use Rattle.store.proofs.MarkLaws.{BitsTo, has?}
-use Rattle.store.proofs.NextLaws.{next_past, next_first, next_skip}
+use Rattle.store.proofs.NextLaws.{next_first, next_skip}
 use Rattle.claim_reader.specs.Marks.{marked_from, positions_in}
 
 pub marked_none : (mem : List ℕ) (p : ℕ) → marked_from mem p 0 ≡ []
@@ -76,29 +77,33 @@ module _ (mem : List ℕ) where
 
 -- ---- the first of the marked positions, and the others
 
--- rest are the marked positions that are to come after `last`, and p is the first of them; or there is none, and p is w
-pub record Coming (mem : List ℕ) (w last p : ℕ) (rest : List ℕ) : Type 0 where
-  pub some : p < w → (last ≤ p) × (rest ≡ p ∷ marked_from mem (p + 1) (w - (p + 1)))
-  pub none : w ≤ p → rest ≡ []
+-- rest are the marked positions that are to come after `last`, and the next mark is the first of them; or there is none
+abbrev pub Coming : List ℕ → ℕ → ℕ → Option ℕ → List ℕ → Type 0
+Coming mem w last (Some p) rest = (p < w) × (last ≤ p) × (rest ≡ p ∷ marked_from mem (p + 1) (w - (p + 1)))
+Coming mem w last None rest = rest ≡ []
 
 module _ (mem : List ℕ) (w last : ℕ) where
-  coming_from : (k from p : ℕ) → last ≤ from → from + k ≡ w → NextMark mem from w p → Coming mem w last p (marked_from mem from k)
+  coming_from : (k from : ℕ) (next : Option ℕ) → last ≤ from → from + k ≡ w → NextMark mem from w next
+      → Coming mem w last next (marked_from mem from k)
   unfolding marked_from
-  coming_from zero from p h e n =
-      record { some = λ l. absurd (omega (arith, next_past (omega arith) n)); none = λ _. refl }
-  coming_from (suc k) from p h e n = go (has? mem from) (coming_from k (from + 1) p (omega arith) (omega arith))
+  coming_from zero from None h e n = refl
+  coming_from zero from (Some p) h e n = absurd (omega (arith, n.here.past, n.here.below))
+  coming_from (suc k) from next h e n = go (has? mem from) (coming_from k (from + 1) next (omega arith) (omega arith))
     where
-      go : Dec (Has mem from) → (NextMark mem (from + 1) w p → Coming mem w last p (marked_from mem (from + 1) k))
-          → Coming mem w last p (marked_from mem from (suc k))
-      go (yes i) rec =
-          let m = marked_here mem from k i in
-          let is : p ≡ from = next_first (omega arith) i n in
-          let left : k ≡ w - (from + 1) = omega arith in
-          record { some = λ l. (omega arith, m ∙ rw (is, left)); none = λ l. absurd (omega arith) }
-      go (no i) rec =
-          let m = marked_skip mem from k i in
-          let c = rec (next_skip (omega arith) i n) in
-          record { some = λ l. ((c.some l).0, m ∙ (c.some l).1); none = λ l. m ∙ c.none l }
+      -- where the place has no mark, the list is that of the place after it
+      skip : (next : Option ℕ) → Coming mem w last next (marked_from mem (from + 1) k) → ¬ Has mem from
+          → Coming mem w last next (marked_from mem from (suc k))
+      skip (Some p) c i = (c.0, c.1, marked_skip mem from k i ∙ c.2)
+      skip None c i = marked_skip mem from k i ∙ c
 
-  pub coming : (from p : ℕ) → last ≤ from → from ≤ w → NextMark mem from w p → Coming mem w last p (marked_from mem from (w - from))
-  coming from p h i n = coming_from (w - from) from p h (omega arith) n
+      go : Dec (Has mem from) → (NextMark mem (from + 1) w next → Coming mem w last next (marked_from mem (from + 1) k))
+          → Coming mem w last next (marked_from mem from (suc k))
+      go (yes i) rec =
+          let left : k ≡ w - (from + 1) = omega arith in
+          let here : Coming mem w last (Some from) (marked_from mem from (suc k)) = (omega arith, h, marked_here mem from k i ∙ rw left) in
+          subst (λ o. Coming mem w last o (marked_from mem from (suc k))) (sym (next_first mem from w next (omega arith) i n)) here
+      go (no i) rec = skip next (rec (next_skip mem from w next i n)) i
+
+  pub coming : (from : ℕ) (next : Option ℕ) → last ≤ from → from ≤ w → NextMark mem from w next
+      → Coming mem w last next (marked_from mem from (w - from))
+  coming from next h i n = coming_from (w - from) from next h (omega arith) n

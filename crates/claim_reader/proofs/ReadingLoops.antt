@@ -8,8 +8,7 @@ use native.Mathlib.Omega.{arith}
 use native.Mathlib.Nat.{sub-zero}
 use Rattle.numbers.specs.declared.refusals.Refusal.{Refusal}
 use Rattle.numbers.specs.Reading.{Out, got, bad}
-use Rattle.numbers.proofs.ReadingLaws.{never}
-use Rattle.reader.specs.declared.ends.End.TheVariants.{Past, Refused}
+use Rattle.std.specs.Prelude.{Ok, Err}
 use Rattle.cells.specs.Rows.{push}
 use Rattle.reader.specs.Ends.{end_of}
 use Rattle.store.specs.Marking.{room, marked}
@@ -44,12 +43,12 @@ module _ {w count : ℕ} {s : List ℕ} {at : ℕ} where
           same = f.same ∙ rw (left, positions_more w _ least last s p e) (end_push q (positions_at w (count - (i + 1)) 1 q s n));
         }
 
-    pub read_refused : {r : Refusal} → i < count → position_at w least last s p ≡ bad r → Refused r ≡ end_of (positions_at w count 0 0 s at)
+    pub read_refused : {r : Refusal} → i < count → position_at w least last s p ≡ bad r → Err r ≡ end_of (positions_at w count 0 0 s at)
     read_refused h e =
         let left : count - i ≡ suc (count - (i + 1)) = omega arith in
         sym (f.same ∙ rw (left, positions_stop w _ least last s p e))
 
-    pub read_end : count ≤ i → Past p ≡ end_of (positions_at w count 0 0 s at)
+    pub read_end : count ≤ i → Ok p ≡ end_of (positions_at w count 0 0 s at)
     read_end h =
         let none : count - i ≡ 0 = omega arith in
         sym (f.same ∙ rw (none, positions_none))
@@ -105,11 +104,10 @@ module _ {w count : ℕ} {s : List ℕ} {at : ℕ} {mem₀ : List ℕ} where
           }
 
       -- what reads well is not refused
-      pub mark_bad : {A : Type 0} {r : Refusal} → position_at w least last s p ≡ bad r → A
-      mark_bad e =
-          let t = rw left at f.reads in
-          let b = positions_stop w (count - (i + 1)) least last s p e in
-          never (cc)
+      pub mark_next : (q : ℕ) × (n : ℕ) × (position_at w least last s p ≡ got q n)
+      mark_next =
+          let t = positions_first w (count - (i + 1)) least last s p f.rest f.end (rw left at f.reads) in
+          (t.p, t.next, t.was)
 
     pub mark_end : count ≤ i → mem ≡ marked_all mem₀ (positions_of (positions_at w count 0 0 s at))
     unfolding marked_all

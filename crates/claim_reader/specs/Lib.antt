@@ -4,7 +4,7 @@
 --   ClaimAnswers  what reading a claim answers
 --   Marks         the positions that are marked in a memory, and a memory that marks given positions
 -- and private ones, here and in claim_of_marks, besides
---   Stages        a memory while it is marked; the bytes of a part of a claim
+--   Stages        the positions of a claim and a walk over them; a memory while it is marked; the bytes of a part of a claim
 pub mod ClaimFile
 pub mod ClaimAnswers
 pub mod Marks

@@ -1,16 +1,35 @@
--- `claim_reader::reading::read_claim` meets its contract: the count, and then the rest.
+-- `claim_reader::reading::read_claim` meets its contract: the count, the positions and the end.
 use mathlib.Core.Path.{sym, ap, ◌∙◌}
-use Rattle.numbers.proofs.ReadingLaws.{read_got, read_bad}
+use Rattle.std.proofs.lemmas.Result.{err_from_is_err_and}
+use Rattle.numbers.proofs.ReadingLaws.{part_got, part_bad}
+use Rattle.reader.proofs.EndLaws.{end_past, end_refused}
 use Rattle.claim_reader.specs.ClaimAnswers.{claimed_of}
-use Rattle.claim_reader.proofs.ClaimLaws.{claim_counted, claim_uncounted}
+use Rattle.claim_reader.proofs.ClaimLaws.{claim_counted, claim_uncounted, rest_read, rest_more, rest_refused}
 use Rattle.claim_reader.proofs.reading.read_claim.Goals as goal
 
-pub returns-in-Value : goal.returns-in-Value
-returns-in-Value c =
-    let was = read_got _ _ _ (sym c.in-Value.is ∙ c.count.ensures) in
-    c.rest.ensures ∙ sym (ap claimed_of (claim_counted _ _ was))
+pub returns-in_err-count : goal.returns-in_err-count
+returns-in_err-count c =
+    let exit = err_from_is_err_and c.from_residual.result c.from_residual.ensures.1 in
+    rw (exit.1, exit.2) (sym (ap claimed_of (claim_uncounted _ _ (part_bad _ (sym c.in_err-count.was ∙ c.count.ensures)))))
 
-pub returns-in-Refused : goal.returns-in-Refused
-returns-in-Refused c =
-    let was = read_bad _ _ (sym c.in-Refused.is ∙ c.count.ensures) in
-    sym (ap claimed_of (claim_uncounted _ _ was))
+pub returns-in_err-end : goal.returns-in_err-end
+returns-in_err-end c =
+    let exit = err_from_is_err_and c.from_residual-in_err-end.result c.from_residual-in_err-end.ensures.1 in
+    let count = part_got _ (sym c.in_ok-count.was ∙ c.count.ensures) in
+    let positions = end_refused _ _ (sym c.positions.ensures ∙ c.in_err-end.was) in
+    rw (exit.1, exit.2) (sym (ap claimed_of (claim_counted _ _ count ∙ rest_refused _ _ _ _ positions)))
+
+pub returns-in_err-end_at : goal.returns-in_err-end_at
+returns-in_err-end_at c =
+    let exit = err_from_is_err_and c.from_residual-in_err-end_at.result c.from_residual-in_err-end_at.ensures.1 in
+    let count = part_got _ (sym c.in_ok-count.was ∙ c.count.ensures) in
+    let positions = (end_past _ _ (sym c.positions.ensures ∙ c.in_ok-end.was)).1 in
+    let more = end_refused _ _ (sym c.end_at.ensures ∙ c.in_err-end_at.was) in
+    rw (exit.1, exit.2) (sym (ap claimed_of (claim_counted _ _ count ∙ rest_more _ _ _ _ positions more)))
+
+pub returns : goal.returns
+returns c =
+    let count = part_got _ (sym c.in_ok-count.was ∙ c.count.ensures) in
+    let positions = (end_past _ _ (sym c.positions.ensures ∙ c.in_ok-end.was)).1 in
+    let ended = (end_past _ _ (sym c.end_at.ensures ∙ c.in_ok-end_at.was)).1 in
+    rest_read _ _ _ _ positions ended ∙ sym (ap claimed_of (claim_counted _ _ count))
