@@ -19,8 +19,7 @@ use Rattle.store.proofs.MarkLaws.{first_cleared}
 use Rattle.claim_reader.specs.ClaimFile.{claim_at}
 use Rattle.claim_reader.proofs.RoundTrip.{claim_ascending}
 use Rattle.claim_reader.proofs.PositionsOfMarks.{ascending_below}
-use Rattle.claim_check_call.specs.declared.answer.ClaimAnswer.{ClaimAnswer}
-use Rattle.claim_check_call.specs.declared.answer.ClaimAnswer.TheVariants.{TableRefused, Short, ClaimRefused}
+use Rattle.claim_check_call.specs.ClaimAnswer.{ClaimAnswer, TableRefused, Short, ClaimRefused}
 use Rattle.claim_check_call.specs.Answers.{answer_of}
 use Rattle.claim_check_call.specs.ClaimChecking.{
   Refuses,

@@ -16,7 +16,7 @@ use Rattle.model.specs.Claims.{Claimed, Finding, Finds, accepted, lacks_start, n
 use Rattle.model.proofs.Unique.{finding_same}
 use Rattle.check_call.proofs.Unique.{got_table}
 use Rattle.claim_reader.specs.ClaimFile.{claim_at}
-use Rattle.claim_check_call.specs.declared.answer.ClaimAnswer.{ClaimAnswer}
+use Rattle.claim_check_call.specs.ClaimAnswer.{ClaimAnswer}
 use Rattle.claim_check_call.specs.Answers.{answer_of}
 use Rattle.claim_check_call.specs.ClaimChecking.{
   OfPositions,

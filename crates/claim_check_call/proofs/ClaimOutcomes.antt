@@ -1,35 +1,34 @@
 -- From the memory in which the claim is marked to the answer: what is found there is found of the claimed facts, and the first W bytes hold them
 -- or are cleared.
---     answer_accepted, _lacking, _missing, _allowing    the answer, by what is found
---     answer_short, answer_refused, answer_read         by the length of the memory, and by what the claim's reader answers
+--     answer_accepted, answer_fault                the answer, by what is found
+--     answer_short, answer_refused, answer_read    by the length of the memory, and by what the claim's reader answers
 use mathlib.Core.Path.{◌≡◌, sym, ap, subst, ◌∙◌}
 use mathlib.Core.List.{List, Memᴰ}
 use Prim.Native.Nat.{ℕ, ◌≤◌, ◌<◌}
+use Rattle.std.specs.Prelude.{Ok, Err}
 use native.Mathlib.Omega.{arith}
 use lib.ListN.{length, take, drop}
 use lib.Seq.{get_or-take}
 use Rattle.numbers.specs.declared.refusals.Refusal.{Refusal}
-use Rattle.files.specs.declared.header.Header.{Header}
-use Rattle.files.specs.declared.table.Counts.{Counts}
 use Rattle.files.specs.Table.{Table, W}
 use Rattle.model.specs.Positions.{fact_at}
 use Rattle.model.specs.Memory.{Says, Holds, Marked}
 use Rattle.model.specs.Claims.{Claimed, Finds}
 use Rattle.store.specs.Clearing.{Cleared}
-use Rattle.check_call.specs.Lent.{Stored}
-use Rattle.claim_reader.specs.declared.reading.Claimed.TheVariants as reader
+use Rattle.check_call.specs.declared.stored.StoredTable.{StoredTable}
+use Rattle.check_call.specs.Lent.{StoredAs}
 use Rattle.claim_reader.specs.ClaimFile.{claim_at}
 use Rattle.claim_reader.specs.ClaimAnswers.{IsClaim, claimed_of, positions_of}
 use Rattle.claim_reader.proofs.ClaimLaws.{claimed_refused}
 use Rattle.claim_reader.proofs.RoundTrip.{claim_ascending}
 use Rattle.claim_reader.proofs.PositionsOfMarks.{ascending_below}
 use Rattle.claim_reader.proofs.ClaimIsModel.{claim_held}
-use Rattle.findings.specs.declared.find.Finding.{Finding}
-use Rattle.findings.specs.declared.find.Finding.TheVariants as find
-use Rattle.findings.specs.Found.{finding_of}
+use Rattle.findings.specs.declared.find.Fault.{Fault}
+use Rattle.findings.specs.declared.find.Fault.TheVariants as fault
+use Rattle.findings.specs.Found.{Finding, finding_of}
 use Rattle.findings.proofs.HeldFacts.{finds_of_claim}
-use Rattle.claim_check_call.specs.declared.answer.ClaimAnswer.{ClaimAnswer}
-use Rattle.claim_check_call.specs.declared.answer.ClaimAnswer.TheVariants.{Accepted, Short, ClaimRefused, LacksStart, NotClosed, AllowsError}
+use Rattle.claim_check_call.specs.declared.answer.ClaimRefusal.TheVariants as refusal
+use Rattle.claim_check_call.specs.ClaimAnswer.{ClaimAnswer, Accepted, Short, ClaimRefused}
 use Rattle.claim_check_call.specs.ClaimLent.{Lent, MarkedFirst}
 use Rattle.claim_check_call.specs.ClaimChecking.{
   Refuses,
@@ -46,7 +45,7 @@ use Rattle.claim_check_call.specs.ClaimChecking.{
 
 -- ---- the claim is marked: `marked` has the marks in its first w bytes, and is m after them
 
-module _ {T : Table} {ps : List ℕ} {h : Header} {k : Counts} {st pu po er c : List ℕ} {count w : ℕ} (l : Lent T ps h k st pu po er c count w)
+module _ {T : Table} {ps : List ℕ} {table : StoredTable} {c : List ℕ} {count w : ℕ} (l : Lent T ps table c count w)
     {m marked : List ℕ} (room : w ≤ length marked) (by : MarkedFirst w (positions_of (claim_at w c)) m marked) where
   -- it holds the claimed facts
   facts : Holds T (Claimed T ps) marked
@@ -65,7 +64,7 @@ module _ {T : Table} {ps : List ℕ} {h : Header} {k : Counts} {st pu po er c : 
     found : {x : Finding} → r ≡ x → Finds T (Claimed T ps) (finding_of x)
     found e = finds_of_claim l.stored.sound below facts (subst (λ x. Finds T (Marked T marked) (finding_of x)) e f)
 
-    pub answer_accepted : r ≡ find.Accepted → OfPositions T ps m (Accepted count) after
+    pub answer_accepted : r ≡ Ok tt → OfPositions T ps m (Accepted count) after
     answer_accepted e =
         rw (l.counted, kept) (done (record { found = found e; facts = facts; rest = rw (← l.wide) by.rest }))
 
@@ -77,14 +76,10 @@ module _ {T : Table} {ps : List ℕ} {h : Header} {k : Counts} {st pu po er c : 
             cleared = rw (← l.wide) (record { zeros = cleared.zeros; rest = cleared.rest ∙ ap (drop w) kept ∙ by.rest });
           }
 
-      pub answer_lacking : {t : ℕ} → r ≡ find.LacksStart t → OfPositions T ps m (LacksStart t) m'
-      answer_lacking e = lacking (refuses e)
-
-      pub answer_missing : {p : ℕ} → r ≡ find.NotClosed p → OfPositions T ps m (NotClosed p) m'
-      answer_missing e = missing (refuses e)
-
-      pub answer_allowing : {row : ℕ} → r ≡ find.AllowsError row → OfPositions T ps m (AllowsError row) m'
-      answer_allowing e = allowing (refuses e)
+      pub answer_fault : (x : Fault) → r ≡ Err x → OfPositions T ps m (Err (refusal.Fault x)) m'
+      answer_fault (fault.LacksStart t) e = lacking (refuses e)
+      answer_fault (fault.NotClosed p) e = missing (refuses e)
+      answer_fault (fault.AllowsError row) e = allowing (refuses e)
 
 -- ---- by the length of the memory, and by what the claim's reader answers
 
@@ -92,13 +87,12 @@ module _ {T : Table} {w : ℕ} (wide : w ≡ W T) {c m : List ℕ} where
   pub answer_short : length m < w → AgainstTable T c m (Short w) m
   answer_short i = rw wide (short (omega arith))
 
-  pub answer_refused : {x : Refusal} → w ≤ length m → reader.Refused x ≡ claimed_of (claim_at w c) → AgainstTable T c m (ClaimRefused x) m
+  pub answer_refused : {x : Refusal} → w ≤ length m → Err x ≡ claimed_of (claim_at w c) → AgainstTable T c m (ClaimRefused x) m
   answer_refused {x} room e = claim_refused (omega arith) (rw wide at (claimed_refused w c x e))
 
 module _ {T : Table} {w : ℕ} (wide : w ≡ W T) {c : List ℕ} (i : IsClaim w c) where
   -- what is lent from then on
-  pub read_lent : {h : Header} {k : Counts} {st pu po er : List ℕ} {count : ℕ} → Stored T h k st pu po er → count ≡ length i.positions
-      → Lent T i.positions h k st pu po er c count w
+  pub read_lent : {table : StoredTable} {count : ℕ} → StoredAs T table → count ≡ length i.positions → Lent T i.positions table c count w
   read_lent s e = record { stored = s; wide = wide; next = i.next; reads = i.reads; counted = e }
 
   pub answer_read : {m : List ℕ} {a : ClaimAnswer} {m' : List ℕ} → w ≤ length m → OfPositions T i.positions m a m' → AgainstTable T c m a m'

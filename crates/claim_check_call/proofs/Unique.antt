@@ -20,8 +20,7 @@ use Rattle.model.specs.Claims.{Finding, accepted, lacks_start, not_closed, allow
 use Rattle.model.proofs.Unique.{holds_same, finding_same}
 use Rattle.check_call.proofs.Unique.{Alike, unchanged, changed, alike_same, bad_refusal}
 use Rattle.claim_reader.specs.ClaimFile.{claim_at}
-use Rattle.claim_check_call.specs.declared.answer.ClaimAnswer.{ClaimAnswer}
-use Rattle.claim_check_call.specs.declared.answer.ClaimAnswer.TheVariants.{TableRefused, ClaimRefused}
+use Rattle.claim_check_call.specs.ClaimAnswer.{ClaimAnswer, TableRefused, ClaimRefused}
 use Rattle.claim_check_call.specs.Answers.{answer_of}
 use Rattle.claim_check_call.specs.ClaimChecking.{
   OfPositions,
@@ -36,6 +35,8 @@ use Rattle.claim_check_call.specs.ClaimChecking.{
 use Rattle.claim_check_call.proofs.ClaimCases.{table_was_read, claim_was_read, Left, worked}
 use Rattle.claim_check_call.proofs.answer.claim_reply_of.Reads as claim-reply-of
 use Rattle.claim_check_call.proofs.answer.claim_reply_of.Kinds as claim-reply-of-kinds
+use Rattle.claim_check_call.proofs.answer.ReplyFromClaimRefusal.from.Reads as reply-from
+use Rattle.claim_check_call.proofs.answer.ReplyFromClaimRefusal.from.Kinds as reply-from-kinds
 use Rattle.claim_check_call.proofs.check.check_claim.Reads as check-claim
 use Rattle.claim_check_call.proofs.check.check_claim.Kinds as check-claim-kinds
 
@@ -119,3 +120,6 @@ check_claim_fixes κs a x x' s s' = claim_checked_same
 
 pub claim_reply_of_fixes : Fixes claim-reply-of-kinds.ps claim-reply-of-kinds.r claim-reply-of.Post
 claim_reply_of_fixes κs a x x' s s' = numbers.same
+
+pub reply_of_refusal_fixes : Fixes reply-from-kinds.ps reply-from-kinds.r reply-from.Post
+reply_of_refusal_fixes κs a x x' s s' = numbers.same

@@ -9,8 +9,8 @@ use Rattle.model.specs.Memory.{Holds}
 use Rattle.model.specs.Claims.{Claimed, Finding, Finds, accepted, lacks_start, not_closed, allows_error}
 use Rattle.store.specs.Clearing.{Cleared}
 use Rattle.claim_reader.specs.ClaimFile.{claim_at}
-use Rattle.claim_check_call.specs.declared.answer.ClaimAnswer.{ClaimAnswer}
-use Rattle.claim_check_call.specs.declared.answer.ClaimAnswer.TheVariants.{
+use Rattle.claim_check_call.specs.ClaimAnswer.{
+  ClaimAnswer,
   Accepted,
   TableRefused,
   Short,

@@ -1,16 +1,15 @@
 -- What the claim check's own functions are lent, and what they leave. Only contracts of private functions cite this file.
 use Rattle.std.specs.Prelude.{◌≡◌, List, ℕ, length, take, drop}
 use Rattle.numbers.specs.Reading.{got}
-use Rattle.files.specs.declared.header.Header.{Header}
-use Rattle.files.specs.declared.table.Counts.{Counts}
 use Rattle.files.specs.Table.{Table, W}
-use Rattle.check_call.specs.Lent.{Stored}
+use Rattle.check_call.specs.declared.stored.StoredTable.{StoredTable}
+use Rattle.check_call.specs.Lent.{StoredAs}
 use Rattle.claim_reader.specs.ClaimFile.{claim_at}
 use Rattle.claim_reader.specs.Marks.{Marks}
 
--- a table whose rows are stored, its W, and a claim c of `count` facts that is read as the positions ps
-pub record Lent (T : Table) (ps : List ℕ) (h : Header) (k : Counts) (st pu po er c : List ℕ) (count w : ℕ) : Type 0 where
-  pub stored : Stored T h k st pu po er
+-- a table that is stored, its W, and a claim c of `count` facts that is read as the positions ps
+pub record Lent (T : Table) (ps : List ℕ) (s : StoredTable) (c : List ℕ) (count w : ℕ) : Type 0 where
+  pub stored : StoredAs T s
   pub wide : w ≡ W T
   pub next : ℕ
   pub reads : claim_at w c ≡ got ps next

@@ -1,40 +1,45 @@
 // The answers of the claim check, and document 01's number, origin and value of each.
 ghost use Rattle.std.specs.Prelude.{◌≡◌};
-ghost use Rattle.claim_check_call.specs.Answers.{claim_reply_of};
+ghost use Rattle.claim_check_call.specs.Answers.{claim_reply_of, reply_of_refusal};
 
-use check_call::answer::{Reply, plain_reply, refusal_reply};
+use check_call::answer::Reply;
+use findings::find::Fault;
 use numbers::refusals::Refusal;
 
-// What a claim check comes back with.
+// Why a claim is not accepted.
 #[derive(Clone, Copy)]
-pub enum ClaimAnswer {
-    // The claim is accepted: how many facts it claims.
-    Accepted { count: usize },
+pub enum ClaimRefusal {
     // The table's file is refused for its first fault.
-    TableRefused { refusal: Refusal },
+    Table(Refusal),
     // The working memory is shorter than W.
     Short { w: usize },
     // The claim's file is refused for its first fault.
-    ClaimRefused { refusal: Refusal },
-    // The smallest thread whose start fact the claim lacks.
-    LacksStart { thread: usize },
-    // The smallest position that one use of a rule yields from claimed facts and that is not claimed.
-    NotClosed { position: usize },
-    // The smallest row number of an error that the claim allows.
-    AllowsError { row: usize },
+    Claim(Refusal),
+    // The claimed facts lack a start fact, are not closed, or allow an error.
+    Fault(Fault),
 }
 
-// The number, the origin and the value of an answer.
-pub fn claim_reply_of(answer: ClaimAnswer) -> Reply
+impl From<ClaimRefusal> for Reply {
+    ghost from_gives = { λ refusal reply. reply ≡ reply_of_refusal refusal };
+
+    fn from(refusal: ClaimRefusal) -> Reply {
+        match refusal {
+            ClaimRefusal::Table(refusal) => Reply::told(0, refusal),
+            ClaimRefusal::Short { w } => Reply::plain(7, w),
+            ClaimRefusal::Claim(refusal) => Reply::told(1, refusal),
+            ClaimRefusal::Fault(Fault::LacksStart { thread }) => Reply::plain(9, thread),
+            ClaimRefusal::Fault(Fault::NotClosed { position }) => Reply::plain(10, position),
+            ClaimRefusal::Fault(Fault::AllowsError { row }) => Reply::plain(11, row),
+        }
+    }
+}
+
+// The number, the origin and the value of an answer, which is how many facts are claimed where the claim is accepted.
+pub fn claim_reply_of(answer: Result<usize, ClaimRefusal>) -> Reply
     ensures { result ≡ claim_reply_of answer }
 {
     match answer {
-        ClaimAnswer::Accepted { count } => plain_reply(0, count),
-        ClaimAnswer::TableRefused { refusal } => refusal_reply(0, refusal),
-        ClaimAnswer::Short { w } => plain_reply(7, w),
-        ClaimAnswer::ClaimRefused { refusal } => refusal_reply(1, refusal),
-        ClaimAnswer::LacksStart { thread } => plain_reply(9, thread),
-        ClaimAnswer::NotClosed { position } => plain_reply(10, position),
-        ClaimAnswer::AllowsError { row } => plain_reply(11, row),
+        Ok(count) => Reply::plain(0, count),
+        Err(refusal) => Reply::from(refusal),
     }
 }
