@@ -3,6 +3,7 @@
 use mathlib.Core.Path.{refl}
 use mathlib.Core.List.{List, ◌++◌}
 use Prim.Native.Nat.{ℕ, ◌<◌}
+use Rattle.std.specs.Prelude.{Ok}
 use native.Mathlib.Decide.{dec_lt}
 use native.Mathlib.Omega.{arith}
 use lib.ListN.{length, drop, replicate}
@@ -10,13 +11,12 @@ use lib.Seq.{sets}
 use Rattle.files.specs.Table.{Table, W}
 use Rattle.store.proofs.MarkLaws.{first_cleared}
 use Rattle.verdict.specs.declared.search.Verdict.{Verdict}
-use Rattle.check_call.specs.declared.answer.Answer.{Answer}
-use Rattle.check_call.specs.declared.answer.Answer.TheVariants as check
+use Rattle.check_call.specs.Answer.{Answer}
+use Rattle.check_call.specs.Answer as check
 use Rattle.check_call.specs.Checking.{Checked}
 use Rattle.check_call.proofs.Exactly.{check_done}
 use Rattle.check_call.proofs.Answered.{check_answered}
-use Rattle.claim_write_call.specs.declared.answer.WriteAnswer.{WriteAnswer}
-use Rattle.claim_write_call.specs.declared.answer.WriteAnswer.TheVariants.{Written, Refused, Short, Over, NoSpace}
+use Rattle.claim_write_call.specs.WriteAnswer.{WriteAnswer, Written, Refused, Short, Over, NoSpace}
 use Rattle.claim_write_call.specs.ClaimWriting.{ClaimOf, ClaimWritten, refused, short, over, no_space, written}
 use Rattle.claim_write_call.proofs.PositionsOfFacts.{claim_of_marks}
 
@@ -33,7 +33,7 @@ module _ (s : List ℕ) (budget : ℕ) (m d : List ℕ) where
       (Written count verdict (length bytes), m₁, sets d 0 bytes, written c of (omega arith))
 
   after_check : (a : Answer) {m₁ : List ℕ} → Checked s budget m a m₁ → Answered
-  after_check (check.Done count verdict) c = by_space c (claim_of_marks (check_done c)) (dec_lt _ _)
+  after_check (Ok done) c = by_space c (claim_of_marks (check_done c)) (dec_lt _ _)
   after_check (check.Refused x) {m₁} c = (Refused x, m₁, d, refused c)
   after_check (check.Short w) {m₁} c = (Short w, m₁, d, short c)
   after_check (check.Over b) {m₁} c = (Over b, m₁, d, over c)

@@ -13,11 +13,10 @@ use Rattle.files.proofs.WLaws.{W_max}
 use Rattle.files.proofs.TableLaws.{table_sound}
 use Rattle.model.proofs.FactCounts.{exceeds_below_W}
 use Rattle.check_call.specs.Checking as check
-use Rattle.check_call.specs.declared.answer.Answer.TheVariants.{Short}
+use Rattle.check_call.specs.Answer.{Short}
 use Rattle.check_call.proofs.Unique.{got_table}
 use Rattle.claim_reader.proofs.ClaimLength.{claim_length}
-use Rattle.claim_write_call.specs.declared.answer.WriteAnswer.{WriteAnswer}
-use Rattle.claim_write_call.specs.declared.answer.WriteAnswer.TheVariants.{NoSpace}
+use Rattle.claim_write_call.specs.WriteAnswer.{WriteAnswer, NoSpace}
 use Rattle.claim_write_call.specs.ClaimWriting as writing
 use Rattle.claim_write_call.specs.ClaimWriting.{ClaimOf, ClaimWritten}
 use Rattle.claim_write_call.specs.AnyTable.{RefusedOrWritten, refused, written}

@@ -16,19 +16,22 @@ use Rattle.files.specs.Table.{Table, W}
 use Rattle.store.specs.Clearing.{Cleared}
 use Rattle.store.proofs.Unique.{cleared_unique}
 use Rattle.verdict.specs.declared.search.Verdict.{Verdict}
-use Rattle.check_call.specs.declared.answer.Answer.{Answer}
-use Rattle.check_call.specs.declared.answer.Answer.TheVariants as check
+use Rattle.check_call.specs.Answer.{Answer}
+use Rattle.check_call.specs.Answer as check
 use Rattle.check_call.specs.Checking.{Checked}
 use Rattle.check_call.proofs.Unique.{checked_answer, checked_same}
 use Rattle.check_call.proofs.Exactly.{check_done}
-use Rattle.claim_write_call.specs.declared.answer.WriteAnswer.{WriteAnswer}
-use Rattle.claim_write_call.specs.declared.answer.WriteAnswer.TheVariants.{Written, Refused, Short, Over, NoSpace}
+use Rattle.claim_write_call.specs.WriteAnswer.{WriteAnswer, Written, Refused, Short, Over, NoSpace}
 use Rattle.claim_write_call.specs.ClaimWriting.{ClaimOf, ClaimWritten, refused, short, over, no_space, written}
 use Rattle.claim_write_call.proofs.PositionsOfFacts.{claim_table, claim_bytes_lem}
 use Rattle.claim_write_call.proofs.write.write_claim.Reads as write-claim
 use Rattle.claim_write_call.proofs.write.write_claim.Kinds as write-claim-kinds
 use Rattle.claim_write_call.proofs.answer.write_reply_of.Reads as write-reply-of
 use Rattle.claim_write_call.proofs.answer.write_reply_of.Kinds as write-reply-of-kinds
+use Rattle.claim_write_call.proofs.answer.WriteRefusalFromCheckRefusal.from.Reads as refusal-from
+use Rattle.claim_write_call.proofs.answer.WriteRefusalFromCheckRefusal.from.Kinds as refusal-from-kinds
+use Rattle.claim_write_call.proofs.answer.ReplyFromWriteRefusal.from.Reads as reply-from
+use Rattle.claim_write_call.proofs.answer.ReplyFromWriteRefusal.from.Kinds as reply-from-kinds
 
 cleared_same : {w w' : ℕ} {m m₁ m₂ : List ℕ} → w ≡ w' → Cleared w m m₁ → Cleared w' m m₂ → m₁ ≡ m₂
 cleared_same e c c' = cleared_unique (rw e at c) c'
@@ -126,3 +129,9 @@ write_claim_fixes κs a x x' s s' = claim_written_same
 
 pub write_reply_of_fixes : Fixes write-reply-of-kinds.ps write-reply-of-kinds.r write-reply-of.Post
 write_reply_of_fixes κs a x x' s s' = same
+
+pub write_refusal_fixes : Fixes refusal-from-kinds.ps refusal-from-kinds.r refusal-from.Post
+write_refusal_fixes κs a x x' s s' = same
+
+pub reply_of_refusal_fixes : Fixes reply-from-kinds.ps reply-from-kinds.r reply-from.Post
+reply_of_refusal_fixes κs a x x' s s' = same

@@ -17,6 +17,7 @@ use Rattle.model.specs.Claims.{Claimed, accepted, allows_error, Finds, whole, al
 use Rattle.model.proofs.Least.{derives_closed_with_starts}
 use Rattle.model.proofs.Monotone.{finding_cast}
 use Rattle.model.proofs.Unique.{fact_count_same}
+use Rattle.verdict.specs.declared.search.Witness.{Witness}
 use Rattle.verdict.specs.declared.search.Verdict.{Verdict}
 use Rattle.verdict.specs.declared.search.Verdict.TheVariants.{Safe, Possible}
 use Rattle.verdict.proofs.Answers.{possible_row, safe_none}
@@ -26,7 +27,7 @@ use Rattle.claim_reader.specs.ClaimFile.{AscendingFrom, AscendingBelow, claim_by
 use Rattle.claim_reader.specs.Marks.{positions_in}
 use Rattle.claim_reader.proofs.RoundTrip.{claim_back, claim_bytes_inj}
 use Rattle.claim_reader.proofs.ClaimIsModel.{written_counts}
-use Rattle.claim_write_call.specs.declared.answer.WriteAnswer.TheVariants.{Written}
+use Rattle.claim_write_call.specs.WriteAnswer.{Written}
 use Rattle.claim_write_call.specs.ClaimWriting.{ClaimOf, ClaimWritten, written}
 use Rattle.claim_write_call.specs.ReadBack.{WrittenClaim}
 use Rattle.claim_write_call.proofs.PositionsOfFacts.{claim_of_marks, claim_bytes_lem}
@@ -84,8 +85,8 @@ module _ {s : List ℕ} {count bytes : ℕ} {file : List ℕ} where
       let facts = w.claim.facts in
       finding_cast facts.claims facts.derives (whole (derives_closed_with_starts w.table) (safe_none w.judged))
 
-  pub possible_claim_refused : {row g l0 l1 l2 l3 : ℕ} (w : WrittenClaim s count (Possible row g l0 l1 l2 l3) bytes file)
-      → Finds w.table (Claimed w.table w.claim.positions) (allows_error row)
+  pub possible_claim_refused : {witness : Witness} (w : WrittenClaim s count (Possible witness) bytes file)
+      → Finds w.table (Claimed w.table w.claim.positions) (allows_error witness.row)
   possible_claim_refused w =
       let facts = w.claim.facts in
       finding_cast facts.claims facts.derives (allowing (derives_closed_with_starts w.table) (possible_row w.judged))

@@ -3,8 +3,8 @@ use Rattle.std.specs.Prelude.{List, ℕ}
 use Rattle.numbers.specs.declared.refusals.Refusal.{Refusal}
 use Rattle.files.specs.Table.{most_facts}
 use Rattle.verdict.specs.declared.search.Verdict.{Verdict}
-use Rattle.claim_write_call.specs.declared.answer.WriteAnswer.{WriteAnswer}
-use Rattle.claim_write_call.specs.declared.answer.WriteAnswer.TheVariants as answer
+use Rattle.claim_write_call.specs.WriteAnswer.{WriteAnswer}
+use Rattle.claim_write_call.specs.WriteAnswer as answer
 use Rattle.claim_write_call.specs.ClaimWriting.{ClaimWritten}
 
 -- 1 to 6 or 0: the table is refused, or its claim is written

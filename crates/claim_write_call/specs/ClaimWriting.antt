@@ -10,11 +10,10 @@ use Rattle.model.specs.Rules.{Fact, Derives}
 use Rattle.model.specs.Claims.{Claimed}
 use Rattle.store.specs.Clearing.{Cleared}
 use Rattle.verdict.specs.declared.search.Verdict.{Verdict}
-use Rattle.check_call.specs.declared.answer.Answer.TheVariants as check
+use Rattle.check_call.specs.Answer as check
 use Rattle.check_call.specs.Checking.{Checked}
 use Rattle.claim_reader.specs.ClaimFile.{AscendingBelow, claim_bytes}
-use Rattle.claim_write_call.specs.declared.answer.WriteAnswer.{WriteAnswer}
-use Rattle.claim_write_call.specs.declared.answer.WriteAnswer.TheVariants.{Written, Refused, Short, Over, NoSpace}
+use Rattle.claim_write_call.specs.WriteAnswer.{WriteAnswer, Written, Refused, Short, Over, NoSpace}
 
 -- ps are the positions of the facts, ascending: what stands at them is derivable, and whatever is derivable stands at one of them
 pub record FactPositions (T : Table) (ps : List ℕ) : Type 0 where

@@ -8,8 +8,7 @@ use Rattle.store.specs.Clearing.{Cleared}
 use Rattle.verdict.specs.declared.search.Verdict.{Verdict}
 use Rattle.claim_reader.specs.ClaimFile.{claim_bytes}
 use Rattle.claim_reader.specs.Marks.{positions_in}
-use Rattle.claim_write_call.specs.declared.answer.WriteAnswer.{WriteAnswer}
-use Rattle.claim_write_call.specs.declared.answer.WriteAnswer.TheVariants.{Written, NoSpace}
+use Rattle.claim_write_call.specs.WriteAnswer.{WriteAnswer, Written, NoSpace}
 
 -- w is the room W of the table that the file s holds; of a file that is refused nothing is said
 abbrev pub WOf : List ℕ → ℕ → Type 0

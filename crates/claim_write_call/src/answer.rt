@@ -1,51 +1,53 @@
 // The answers of claim writing, and document 01's number, origin and value of each.
 ghost use Rattle.std.specs.Prelude.{◌≡◌};
-ghost use Rattle.claim_write_call.specs.Answers.{write_reply_of};
+ghost use Rattle.claim_write_call.specs.Answers.{write_reply_of, reply_of_refusal};
+ghost use Rattle.claim_write_call.specs.declared.answer.WriteRefusal.TheVariants as refusal;
 
-use check_call::answer::{Reply, plain_reply, refusal_reply};
-use numbers::refusals::Refusal;
+use check_call::answer::{CheckRefusal, Reply};
 use verdict::search::Verdict;
 
-// What claim writing comes back with.
+// A claim that is written: how many facts there are, the verdict, and how many bytes the claim takes.
 #[derive(Clone, Copy)]
-pub enum WriteAnswer {
-    // The claim is written: how many facts there are, the verdict, and how many bytes the claim takes.
-    Written {
-        count: usize,
-        verdict: Verdict,
-        bytes: usize,
-    },
-    // The table's file is refused for its first fault.
-    Refused {
-        refusal: Refusal,
-    },
-    // The working memory is shorter than W.
-    Short {
-        w: usize,
-    },
-    // There are more facts than the budget.
-    Over {
-        budget: usize,
-    },
+pub struct Written {
+    pub count: usize,
+    pub verdict: Verdict,
+    pub bytes: usize,
+}
+
+// Why no claim is written.
+#[derive(Clone, Copy)]
+pub enum WriteRefusal {
+    // The check is not finished.
+    Check(CheckRefusal),
     // The space is shorter than the claim.
-    NoSpace {
-        needed: usize,
-    },
+    NoSpace { needed: usize },
+}
+
+impl From<CheckRefusal> for WriteRefusal {
+    ghost from_gives = { λ check refused. refused ≡ refusal.Check check };
+
+    fn from(refusal: CheckRefusal) -> WriteRefusal {
+        WriteRefusal::Check(refusal)
+    }
+}
+
+impl From<WriteRefusal> for Reply {
+    ghost from_gives = { λ refusal reply. reply ≡ reply_of_refusal refusal };
+
+    fn from(refusal: WriteRefusal) -> Reply {
+        match refusal {
+            WriteRefusal::Check(refusal) => Reply::from(refusal),
+            WriteRefusal::NoSpace { needed } => Reply::plain(12, needed),
+        }
+    }
 }
 
 // The number, the origin and the value of an answer.
-pub fn write_reply_of(answer: WriteAnswer) -> Reply
+pub fn write_reply_of(answer: Result<Written, WriteRefusal>) -> Reply
     ensures { result ≡ write_reply_of answer }
 {
     match answer {
-        WriteAnswer::Written {
-            count,
-            verdict: _,
-            bytes: _,
-        } => plain_reply(0, count),
-        WriteAnswer::Refused { refusal } => refusal_reply(0, refusal),
-        WriteAnswer::Short { w } => plain_reply(7, w),
-        WriteAnswer::Over { budget } => plain_reply(8, budget),
-        WriteAnswer::NoSpace { needed } => plain_reply(12, needed),
+        Ok(written) => Reply::plain(0, written.count),
+        Err(refusal) => Reply::from(refusal),
     }
 }

@@ -4,58 +4,58 @@ ghost use Rattle.files.specs.Table.{most_facts};
 ghost use Rattle.claim_write_call.specs.ClaimWriting.{ClaimWritten};
 ghost use Rattle.claim_write_call.specs.WriteStages.{WOf, MarksWritten};
 
-use crate::answer::WriteAnswer;
-use check_call::answer::Answer;
-use claim_of_marks::writing::{claim_width, put_claim};
+use crate::answer::{WriteRefusal, Written};
+use check_call::answer::Done;
+use check_call::check::check;
+use claim_of_marks::marked::MarkedFacts;
 use files::header::{read_header, w_of};
 use store::marks::clear_first;
-use verdict::search::Verdict;
 
-// How much room a table's facts take, by its header: W of a table that is read.
+// How much room a table's facts take, by its header: W of a table that is read. Of a header that is refused nothing is said.
 fn w_of_table(table: &[u8]) -> usize
     ensures { WOf table.now result }
 {
-    let read = read_header(table);
-    let header = read.header;
-    let sizes = header.sizes;
-    w_of(sizes)
+    match read_header(table) {
+        Ok(header) => w_of(header.value.sizes),
+        Err(_) => 0,
+    }
 }
 
-// Writes the claim of the facts that are marked in the first w bytes of a memory; or, where the space is too short for it, clears these bytes.
+// Writes the claim of the facts that a finished check leaves marked in the first w bytes of a memory; or, where the space is too short for it, clears
+// these bytes.
 fn write_marked(
     mem: &mut [u8],
     w: usize,
     space: &mut [u8],
-    count: usize,
-    verdict: Verdict,
-) -> WriteAnswer
+    done: Done,
+) -> Result<Written, WriteRefusal>
     requires { (w ≤ most_facts) × (w ≤ length mem.old) }
-    ensures { MarksWritten w count verdict mem.old space.old result mem.new space.new }
+    ensures { MarksWritten w done.count done.verdict mem.old space.old result mem.new space.new }
 {
-    let needed = claim_width(mem, w);
+    let facts = MarkedFacts { mem, w };
+    let needed = facts.claim_width();
     if space.len() < needed {
         clear_first(mem, w);
-        return WriteAnswer::NoSpace { needed };
+        return Err(WriteRefusal::NoSpace { needed });
     }
-    let bytes = put_claim(mem, w, space);
-    WriteAnswer::Written {
-        count,
-        verdict,
+    let bytes = facts.put_claim(space);
+    Ok(Written {
+        count: done.count,
+        verdict: done.verdict,
         bytes,
-    }
+    })
 }
 
 // Checks a table and writes the claim of exactly its facts at the start of a space.
-pub fn write_claim(table: &[u8], mem: &mut [u8], budget: usize, space: &mut [u8]) -> WriteAnswer
+pub fn write_claim(
+    table: &[u8],
+    mem: &mut [u8],
+    budget: usize,
+    space: &mut [u8],
+) -> Result<Written, WriteRefusal>
     ensures { ClaimWritten table.now budget mem.old space.old result mem.new space.new }
 {
-    match check_call::check::check(table, mem, budget) {
-        Answer::Done { count, verdict } => {
-            let w = w_of_table(table);
-            write_marked(mem, w, space, count, verdict)
-        }
-        Answer::Refused { refusal } => WriteAnswer::Refused { refusal },
-        Answer::Short { w } => WriteAnswer::Short { w },
-        Answer::Over { budget } => WriteAnswer::Over { budget },
-    }
+    let done = check(table, mem, budget)?;
+    let w = w_of_table(table);
+    write_marked(mem, w, space, done)
 }
