@@ -21,15 +21,16 @@ use Rattle.model.specs.Verdict.{Verdict}
 use Rattle.model.specs.Memory.{CountOf}
 use Rattle.model.specs.Claims.{Claimed, whole}
 use Rattle.model.proofs.AcceptedMeansSafe as model
+use Rattle.verdict.specs.declared.search.Witness as told
 use Rattle.verdict.specs.declared.search.Verdict.TheVariants as judged
 use Rattle.verdict.specs.declared.search.Verdict.TheVariants.{Possible}
-use Rattle.check_call.specs.declared.answer.Answer.TheVariants.{Done}
+use Rattle.check_call.specs.Answer.{Done}
 use Rattle.check_call.specs.Checking as checking
 use Rattle.check_call.specs.Checking.{Checked, read, done}
 use Rattle.check_call.proofs.Unique.{was_read}
 use Rattle.claim_reader.specs.ClaimFile.{claim_at}
 use Rattle.claim_reader.proofs.ClaimIsModel.{claim_counts}
-use Rattle.claim_check_call.specs.declared.answer.ClaimAnswer.TheVariants.{Accepted}
+use Rattle.claim_check_call.specs.ClaimAnswer.{Accepted}
 use Rattle.claim_check_call.specs.ClaimChecking as claims
 use Rattle.claim_check_call.specs.ClaimChecking.{Accepts, OfPositions, AgainstTable, claim_read, ClaimChecked}
 use Rattle.claim_check_call.proofs.ClaimCases.{table_was_read, claim_was_read, answer_by_finding}
@@ -86,8 +87,8 @@ module _ {s c m m' : List ℕ} {count : ℕ} where
       → ¬ ClaimChecked s c m (Accepted count) m'
   possible_never_accepted e v h = model.possible_never_accepted v (accepted_claim e h).accepts.found
 
-  pub check_possible_never_accepted : {budget facts row g l0 l1 l2 l3 : ℕ} {k k' : List ℕ}
-      → Checked s budget k (Done facts (Possible row g l0 l1 l2 l3)) k' → ¬ ClaimChecked s c m (Accepted count) m'
+  pub check_possible_never_accepted : {budget facts : ℕ} {witness : told.Witness} {k k' : List ℕ}
+      → Checked s budget k (Done facts (Possible witness)) k' → ¬ ClaimChecked s c m (Accepted count) m'
   check_possible_never_accepted (read e (done _ f)) = possible_never_accepted e f.judged.verdict
 
 -- where it is "safe", no run meets an error state

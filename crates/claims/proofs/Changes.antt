@@ -11,12 +11,12 @@ use Rattle.numbers.specs.Reading.{got}
 use Rattle.files.specs.Table.{Table, W}
 use Rattle.files.specs.File.{table_at}
 use Rattle.store.specs.Clearing.{Cleared}
-use Rattle.check_call.specs.declared.answer.Answer.{Answer}
+use Rattle.check_call.specs.Answer.{Answer}
 use Rattle.check_call.specs.Answers.{reply_of}
 use Rattle.check_call.specs.Checking as check
 use Rattle.check_call.specs.Checking.{Checked}
-use Rattle.claim_check_call.specs.declared.answer.ClaimAnswer.{ClaimAnswer}
-use Rattle.claim_write_call.specs.declared.answer.WriteAnswer.{WriteAnswer}
+use Rattle.claim_check_call.specs.ClaimAnswer.{ClaimAnswer}
+use Rattle.claim_write_call.specs.WriteAnswer.{WriteAnswer}
 use Rattle.claim_check_call.specs.Answers as claim
 use Rattle.claim_check_call.specs.ClaimChecking as claims
 use Rattle.claim_check_call.specs.ClaimChecking.{ClaimChecked}

@@ -9,14 +9,14 @@ use Rattle.files.specs.Table.{Table, W, most_facts}
 use Rattle.files.proofs.TableLaws.{table_sound}
 use Rattle.files.proofs.WLaws.{W_max}
 use Rattle.files.proofs.CutTable.{table_reach, table_cut}
-use Rattle.check_call.specs.declared.answer.Answer.{Answer}
+use Rattle.check_call.specs.Answer.{Answer}
 use Rattle.check_call.specs.Checking as check
 use Rattle.check_call.specs.Checking.{Checked}
 use Rattle.claim_reader.proofs.CutClaim.{claim_cut}
-use Rattle.claim_check_call.specs.declared.answer.ClaimAnswer.{ClaimAnswer}
+use Rattle.claim_check_call.specs.ClaimAnswer.{ClaimAnswer}
 use Rattle.claim_check_call.specs.ClaimChecking as claims
 use Rattle.claim_check_call.specs.ClaimChecking.{AgainstTable, ClaimChecked}
-use Rattle.claim_write_call.specs.declared.answer.WriteAnswer.{WriteAnswer}
+use Rattle.claim_write_call.specs.WriteAnswer.{WriteAnswer}
 use Rattle.claim_write_call.specs.ClaimWriting as writing
 use Rattle.claim_write_call.specs.ClaimWriting.{ClaimOf, ClaimWritten}
 

@@ -25,10 +25,10 @@ use Rattle.model.specs.Memory.{FactCount}
 use Rattle.model.specs.Claims.{Claimed}
 use Rattle.model.proofs.FactCounts.{fact_count_exists}
 use Rattle.model.proofs.Unique.{fact_count_same}
+use Rattle.verdict.specs.declared.search.Witness.{Witness}
 use Rattle.verdict.specs.declared.search.Verdict.{Verdict}
 use Rattle.verdict.specs.declared.search.Verdict.TheVariants.{Safe, Possible}
-use Rattle.check_call.specs.declared.answer.Answer.{Answer}
-use Rattle.check_call.specs.declared.answer.Answer.TheVariants.{Done, Over}
+use Rattle.check_call.specs.Answer.{Answer, Done, Over}
 use Rattle.check_call.specs.Answers.{plain, reply_of}
 use Rattle.check_call.specs.Checking.{Checked, CheckDone}
 use Rattle.check_call.proofs.Unique.{checked_same, checked_answer}
@@ -36,10 +36,8 @@ use Rattle.check_call.proofs.Exactly.{check_done, finishes_within, refused_beyon
 use Rattle.check_call.proofs.Answered.{check_answered}
 use Rattle.claim_reader.specs.ClaimFile.{claim_at, claim_bytes, AscendingBelow}
 use Rattle.claim_reader.proofs.RoundTrip.{claim_ascending, claim_back, claim_one}
-use Rattle.claim_check_call.specs.declared.answer.ClaimAnswer.{ClaimAnswer}
-use Rattle.claim_check_call.specs.declared.answer.ClaimAnswer.TheVariants.{Accepted}
-use Rattle.claim_write_call.specs.declared.answer.WriteAnswer.{WriteAnswer}
-use Rattle.claim_write_call.specs.declared.answer.WriteAnswer.TheVariants.{Written}
+use Rattle.claim_check_call.specs.ClaimAnswer.{ClaimAnswer, Accepted}
+use Rattle.claim_write_call.specs.WriteAnswer.{WriteAnswer, Written}
 use Rattle.claim_check_call.specs.Answers as claim
 use Rattle.claim_check_call.specs.ClaimChecking.{OfPositions, ClaimChecked}
 use Rattle.claim_write_call.specs.Answers.{write_reply_of}
@@ -216,6 +214,6 @@ module _ {s : List ℕ} {T : Table} {n : ℕ} (e : table_at s ≡ got T n) where
   safe_is_written = safe_written e
 
 -- when it says possible, every claim for that table is refused
-pub possible_is_refused : {s c : List ℕ} {budget : ℕ} {m m' k k' : List ℕ} {facts count row g l0 l1 l2 l3 : ℕ}
-    → Checked s budget k (Done facts (Possible row g l0 l1 l2 l3)) k' → ¬ ClaimChecked s c m (Accepted count) m'
+pub possible_is_refused : {s c : List ℕ} {budget : ℕ} {m m' k k' : List ℕ} {facts count : ℕ} {witness : Witness}
+    → Checked s budget k (Done facts (Possible witness)) k' → ¬ ClaimChecked s c m (Accepted count) m'
 possible_is_refused = accepting.check_possible_never_accepted

@@ -6,23 +6,25 @@ use mathlib.Core.List.{List, [], ◌∷◌, map}
 use Prim.Native.Nat.{ℕ, zero, suc, ◌≤◌}
 use native.Mathlib.Omega.{arith}
 use lib.ListN.{get_or, take}
+use Rattle.std.specs.Prelude.{Ok}
 use Rattle.numbers.specs.declared.refusals.Refusal.{Refusal}
 use Rattle.numbers.specs.declared.refusals.Refusal.TheVariants as refusal
 use Rattle.numbers.specs.Refusals.{told_of}
 use Rattle.numbers.proofs.RefusalLaws.{told_from_1}
+use Rattle.verdict.specs.declared.search.Witness.{Witness}
 use Rattle.verdict.specs.declared.search.Verdict.{Verdict}
 use Rattle.verdict.specs.declared.search.Verdict.TheVariants.{Safe, Possible}
-use Rattle.check_call.specs.declared.answer.Answer.{Answer}
-use Rattle.check_call.specs.declared.answer.Answer.TheVariants as check
+use Rattle.check_call.specs.Answer.{Answer}
+use Rattle.check_call.specs.Answer as check
 use Rattle.check_call.specs.Answers.{reply_of}
 use Rattle.check_call.specs.Checking.{Checked, CheckDone}
 use Rattle.check_call.proofs.Exactly.{check_done}
-use Rattle.claim_check_call.specs.declared.answer.ClaimAnswer.{ClaimAnswer}
-use Rattle.claim_check_call.specs.declared.answer.ClaimAnswer.TheVariants as claim
+use Rattle.claim_check_call.specs.ClaimAnswer.{ClaimAnswer}
+use Rattle.claim_check_call.specs.ClaimAnswer as claim
 use Rattle.claim_check_call.specs.Answers as claim-answers
 use Rattle.claim_check_call.specs.ClaimChecking.{ClaimChecked, table_read}
-use Rattle.claim_write_call.specs.declared.answer.WriteAnswer.{WriteAnswer}
-use Rattle.claim_write_call.specs.declared.answer.WriteAnswer.TheVariants as write
+use Rattle.claim_write_call.specs.WriteAnswer.{WriteAnswer}
+use Rattle.claim_write_call.specs.WriteAnswer as write
 use Rattle.claim_write_call.specs.Answers.{write_reply_of}
 use Rattle.claim_write_call.specs.ClaimWriting.{ClaimWritten}
 use Rattle.claim_write_call.specs.ReadBack.{WrittenClaim}
@@ -74,7 +76,7 @@ refusal_means_lem (refusal.After at) = refl
 
 -- and an answer's number is that of its meaning
 pub check_means_lem : (a : Answer) → (reply_of a).number ≡ number_of (check_means a)
-check_means_lem (check.Done count verdict) = refl
+check_means_lem (Ok finished) = refl
 check_means_lem (check.Refused r) = refusal_means_lem r
 check_means_lem (check.Short w) = refl
 check_means_lem (check.Over budget) = refl
@@ -89,7 +91,7 @@ claim_means_lem (claim.NotClosed position) = refl
 claim_means_lem (claim.AllowsError row) = refl
 
 pub write_means_lem : (a : WriteAnswer) → (write_reply_of a).number ≡ number_of (write_means a)
-write_means_lem (write.Written count verdict bytes) = refl
+write_means_lem (Ok written) = refl
 write_means_lem (write.Refused r) = refusal_means_lem r
 write_means_lem (write.Short w) = refl
 write_means_lem (write.Over budget) = refl
@@ -101,7 +103,7 @@ no_refusal : {A : Type 0} (r : Refusal) → (told_of r).number ≡ 0 → A
 no_refusal r e = absurd (omega (arith, told_from_1 r))
 
 pub check_0 : (a : Answer) → (reply_of a).number ≡ 0 → (count : ℕ) × (verdict : Verdict) × (a ≡ check.Done count verdict)
-check_0 (check.Done count verdict) e = (count, verdict, refl)
+check_0 (Ok finished) e = (finished.count, finished.verdict, refl)
 check_0 (check.Refused r) e = no_refusal r e
 check_0 (check.Short w) e = absurd (omega arith)
 check_0 (check.Over budget) e = absurd (omega arith)
@@ -117,7 +119,7 @@ claim_0 (claim.AllowsError row) e = absurd (omega arith)
 
 pub write_0 : (a : WriteAnswer) → (write_reply_of a).number ≡ 0
     → (count : ℕ) × (verdict : Verdict) × (bytes : ℕ) × (a ≡ write.Written count verdict bytes)
-write_0 (write.Written count verdict bytes) e = (count, verdict, bytes, refl)
+write_0 (Ok written) e = (written.count, written.verdict, written.bytes, refl)
 write_0 (write.Refused r) e = no_refusal r e
 write_0 (write.Short w) e = absurd (omega arith)
 write_0 (write.Over budget) e = absurd (omega arith)
@@ -178,8 +180,8 @@ pub check_safe : {s : List ℕ} {budget : ℕ} {m m' : List ℕ} {count : ℕ} �
 check_safe h = let d = check_done h in record { table = d.table; next = d.next; is = d.is; safe = λ x. check_safe_runs d.is h }
 
 -- where it answers 0 with the verdict possible, no claim for the table is answered with 0
-pub possible_never_0 : {s c : List ℕ} {budget : ℕ} {m m' k k' : List ℕ} {count row g l0 l1 l2 l3 : ℕ} {a : ClaimAnswer}
-    → Checked s budget k (check.Done count (Possible row g l0 l1 l2 l3)) k' → ClaimChecked s c m a m' → 1 ≤ (claim-answers.claim_reply_of a).number
+pub possible_never_0 : {s c : List ℕ} {budget : ℕ} {m m' k k' : List ℕ} {count : ℕ} {witness : Witness} {a : ClaimAnswer}
+    → Checked s budget k (check.Done count (Possible witness)) k' → ClaimChecked s c m a m' → 1 ≤ (claim-answers.claim_reply_of a).number
 possible_never_0 {s} {c} {m = m} {m'} {a = a} d h = by (claim-answers.claim_reply_of a).number refl
   where
     by : (k : ℕ) → (claim-answers.claim_reply_of a).number ≡ k → 1 ≤ k

@@ -18,16 +18,16 @@ use Rattle.lists.proofs.ListStops.{list_row_refused}
 use Rattle.files.specs.declared.header.Header.{Header}
 use Rattle.files.specs.File.{table_at}
 use Rattle.files.proofs.TableStops.{sizes_refused, places_refused, locals_refused, steps_refused, pushes_refused, pops_refused, errors_refused}
-use Rattle.check_call.specs.declared.answer.Answer.{Answer}
-use Rattle.check_call.specs.declared.answer.Answer.TheVariants as check
+use Rattle.check_call.specs.Answer.{Answer}
+use Rattle.check_call.specs.Answer as check
 use Rattle.check_call.specs.Checking as checking
 use Rattle.check_call.specs.Checking.{Checked}
 use Rattle.check_call.proofs.Unique.{bad_refusal}
-use Rattle.claim_check_call.specs.declared.answer.ClaimAnswer.{ClaimAnswer}
-use Rattle.claim_check_call.specs.declared.answer.ClaimAnswer.TheVariants as claim
+use Rattle.claim_check_call.specs.ClaimAnswer.{ClaimAnswer}
+use Rattle.claim_check_call.specs.ClaimAnswer as claim
 use Rattle.claim_check_call.specs.ClaimChecking.{ClaimChecked, table_refused, table_read}
-use Rattle.claim_write_call.specs.declared.answer.WriteAnswer.{WriteAnswer}
-use Rattle.claim_write_call.specs.declared.answer.WriteAnswer.TheVariants as write
+use Rattle.claim_write_call.specs.WriteAnswer.{WriteAnswer}
+use Rattle.claim_write_call.specs.WriteAnswer as write
 use Rattle.claim_write_call.specs.ClaimWriting as writing
 use Rattle.claim_write_call.specs.ClaimWriting.{ClaimWritten}
 use Rattle.claims.specs.Owed.{

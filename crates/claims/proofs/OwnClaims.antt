@@ -15,20 +15,22 @@ use Rattle.files.specs.Table.{Table, W}
 use Rattle.files.specs.File.{table_at}
 use Rattle.verdict.specs.declared.search.Verdict.{Verdict}
 use Rattle.verdict.specs.declared.search.Verdict.TheVariants.{Safe}
-use Rattle.check_call.specs.declared.answer.Answer.TheVariants.{Done}
+use Rattle.check_call.specs.declared.answer.Done.{Done as Finished}
+use Rattle.check_call.specs.Answer.{Done}
 use Rattle.check_call.specs.Checking.{Checked}
 use Rattle.check_call.proofs.Unique.{got_table}
 use Rattle.check_call.proofs.Exactly.{done_again}
-use Rattle.claim_check_call.specs.declared.answer.ClaimAnswer.TheVariants.{Accepted}
+use Rattle.claim_check_call.specs.ClaimAnswer.{Accepted}
 use Rattle.claim_check_call.proofs.ClaimCases.{table_was_read, claim_was_read, answer_by_finding}
-use Rattle.claim_write_call.specs.declared.answer.WriteAnswer.{WriteAnswer}
-use Rattle.claim_write_call.specs.declared.answer.WriteAnswer.TheVariants.{Written}
+use Rattle.claim_write_call.specs.WriteAnswer.{WriteAnswer, Written}
 use Rattle.claim_write_call.specs.ClaimWriting.{ClaimOf, ClaimWritten, refused, short, over, no_space, written}
 use Rattle.claim_write_call.proofs.WrittenLaws.{written_claim, safe_claim_accepted}
 use Rattle.claims.specs.Owed.{IsAccepted, RoomForClaim}
 
 done_parts : {count count' : ℕ} {verdict verdict' : Verdict} → Done count verdict ≡ Done count' verdict' → (count ≡ count') × (verdict ≡ verdict')
-done_parts e = (cc, cc)
+done_parts {count} {count'} {verdict} {verdict'} e =
+    let same : ◌≡◌ {A = Finished} (record { count = count; verdict = verdict }) (record { count = count'; verdict = verdict' }) = cc in
+    (ap (λ (d : Finished). d.count) same, ap (λ (d : Finished). d.verdict) same)
 
 module _ {s : List ℕ} {T : Table} {n : ℕ} (e : table_at s ≡ got T n) where
   pub done_is_written : {budget : ℕ} {m m' k d k' d' : List ℕ} {count : ℕ} {verdict : Verdict} {a : WriteAnswer}

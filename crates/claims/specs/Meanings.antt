@@ -2,15 +2,15 @@
 --     Meaning                             the meanings, in the order of the table
 --     number_of                            the number of each
 --     check_means, claim_means, write_means  the meaning of each answer of the check, of the claim check and of claim writing
-use Rattle.std.specs.Prelude.{ℕ}
+use Rattle.std.specs.Prelude.{ℕ, Ok}
 use Rattle.numbers.specs.declared.refusals.Refusal.{Refusal}
 use Rattle.numbers.specs.declared.refusals.Refusal.TheVariants as refusal
-use Rattle.check_call.specs.declared.answer.Answer.{Answer}
-use Rattle.check_call.specs.declared.answer.Answer.TheVariants as check
-use Rattle.claim_check_call.specs.declared.answer.ClaimAnswer.{ClaimAnswer}
-use Rattle.claim_check_call.specs.declared.answer.ClaimAnswer.TheVariants as claim
-use Rattle.claim_write_call.specs.declared.answer.WriteAnswer.{WriteAnswer}
-use Rattle.claim_write_call.specs.declared.answer.WriteAnswer.TheVariants as write
+use Rattle.check_call.specs.Answer.{Answer}
+use Rattle.check_call.specs.Answer as check
+use Rattle.claim_check_call.specs.ClaimAnswer.{ClaimAnswer}
+use Rattle.claim_check_call.specs.ClaimAnswer as claim
+use Rattle.claim_write_call.specs.WriteAnswer.{WriteAnswer}
+use Rattle.claim_write_call.specs.WriteAnswer as write
 
 pub data Meaning : Type 0 where
   done : Meaning
@@ -52,7 +52,7 @@ refusal_means (refusal.NotAbove at) = not_above
 refusal_means (refusal.After at) = bytes_after
 
 abbrev pub check_means : Answer → Meaning
-check_means (check.Done count verdict) = done
+check_means (Ok finished) = done
 check_means (check.Refused r) = refusal_means r
 check_means (check.Short w) = short
 check_means (check.Over budget) = over
@@ -67,7 +67,7 @@ claim_means (claim.NotClosed position) = not_closed
 claim_means (claim.AllowsError row) = allows_error
 
 abbrev pub write_means : WriteAnswer → Meaning
-write_means (write.Written count verdict bytes) = done
+write_means (Ok written) = done
 write_means (write.Refused r) = refusal_means r
 write_means (write.Short w) = short
 write_means (write.Over budget) = over

@@ -19,8 +19,7 @@ use Rattle.files.specs.File.{table_at}
 use Rattle.model.specs.Runs.{State, Run}
 use Rattle.model.specs.Errors.{ErrorState}
 use Rattle.store.specs.Clearing.{Cleared}
-use Rattle.claim_check_call.specs.declared.answer.ClaimAnswer.{ClaimAnswer}
-use Rattle.claim_check_call.specs.declared.answer.ClaimAnswer.TheVariants.{Accepted}
+use Rattle.claim_check_call.specs.ClaimAnswer.{ClaimAnswer, Accepted}
 use Rattle.claim_check_call.specs.ClaimChecking.{ClaimChecked}
 use Rattle.claim_write_call.specs.ClaimWriting.{ClaimOf}
 
