@@ -13,8 +13,7 @@ use native.Mathlib.Omega.{arith}
 use lib.ListN.{get_or}
 use Rattle.verdict.specs.declared.search.Verdict.{Verdict}
 use Rattle.verdict.specs.declared.search.Verdict.TheVariants.{Safe, Possible}
-use Rattle.check_call.specs.declared.answer.Answer.{Answer}
-use Rattle.check_call.specs.declared.answer.Answer.TheVariants.{Done}
+use Rattle.check_call.specs.Answer.{Answer, Done}
 use Rattle.check_call.specs.Answers.{reply_of}
 use Rattle.check_call.specs.Checking.{Checked, CheckDone}
 use Rattle.claims.specs.Owed.{Changes, RunsSafely}
@@ -88,7 +87,7 @@ module _ {s : List ℕ} {budget : ℕ} {m m' told : List ℕ} (h : CheckTold s b
       by : (verdict : Verdict) → get_or told verdict_at 0 ≡ (of_verdict verdict).verdict → {count : ℕ} → Checked s budget m (Done count verdict) m'
           → RunsSafely s
       by Safe is done = numbers.check_safe done
-      by (Possible row g l0 l1 l2 l3) is done = absurd (omega arith)
+      by (Possible witness) is done = absurd (omega arith)
 
   -- it returns 0 with verdict 2: no claim is answered with 0
   pub possible_never_0 : get_or told verdict_at 0 ≡ 2 → {c k : List ℕ} {r : ℕ} {k' told' : List ℕ} → ClaimTold s c k r k' told' → 1 ≤ r
@@ -97,4 +96,4 @@ module _ {s : List ℕ} {budget : ℕ} {m m' told : List ℕ} (h : CheckTold s b
       by : (verdict : Verdict) → get_or told verdict_at 0 ≡ (of_verdict verdict).verdict → {count : ℕ} → Checked s budget m (Done count verdict) m'
           → 1 ≤ r
       by Safe is done = absurd (omega arith)
-      by (Possible row g l0 l1 l2 l3) is done = rw claimed.number (numbers.possible_never_0 done claimed.checked)
+      by (Possible witness) is done = rw claimed.number (numbers.possible_never_0 done claimed.checked)

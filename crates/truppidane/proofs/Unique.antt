@@ -6,11 +6,11 @@ use Prim.Native.Nat.{ℕ}
 use contract.Lifetimes.{Lfts}
 use denote.Triple.Clauses.{AtExit}
 use borrow.Fn.Kinds.{Dens, ended_of}
-use Rattle.check_call.specs.declared.answer.Answer.{Answer}
+use Rattle.check_call.specs.Answer.{Answer}
 use Rattle.check_call.specs.Answers.{reply_of}
 use Rattle.check_call.proofs.Unique.{checked_same}
-use Rattle.claim_check_call.specs.declared.answer.ClaimAnswer.{ClaimAnswer}
-use Rattle.claim_write_call.specs.declared.answer.WriteAnswer.{WriteAnswer}
+use Rattle.claim_check_call.specs.ClaimAnswer.{ClaimAnswer}
+use Rattle.claim_write_call.specs.WriteAnswer.{WriteAnswer}
 use Rattle.claim_check_call.specs.Answers as claim
 use Rattle.claim_write_call.specs.Answers.{write_reply_of}
 use Rattle.claim_check_call.proofs.Unique.{claim_checked_same}

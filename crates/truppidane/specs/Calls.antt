@@ -1,11 +1,11 @@
 -- What the exported functions do, on every input (document 01, "What comes back"): some answer that the call's own contract allows is told as its
 -- numbers, and its number is given.
 use Rattle.std.specs.Prelude.{◌≡◌, List, ℕ}
-use Rattle.check_call.specs.declared.answer.Answer.{Answer}
+use Rattle.check_call.specs.Answer.{Answer}
 use Rattle.check_call.specs.Answers.{reply_of}
 use Rattle.check_call.specs.Checking.{Checked}
-use Rattle.claim_check_call.specs.declared.answer.ClaimAnswer.{ClaimAnswer}
-use Rattle.claim_write_call.specs.declared.answer.WriteAnswer.{WriteAnswer}
+use Rattle.claim_check_call.specs.ClaimAnswer.{ClaimAnswer}
+use Rattle.claim_write_call.specs.WriteAnswer.{WriteAnswer}
 use Rattle.claim_check_call.specs.Answers as claim
 use Rattle.claim_write_call.specs.Answers.{write_reply_of}
 use Rattle.claim_check_call.specs.ClaimChecking.{ClaimChecked}
