@@ -5,7 +5,7 @@ use mathlib.Core.List.{List}
 use Prim.Native.Nat.{ℕ}
 use contract.Lifetimes.{Lfts}
 use denote.Triple.Clauses.{AtExit}
-use borrow.Fn.Kinds.{ParamKind, ResultKind, Out, Dens, res_t, ended_of}
+use borrow.Fn.Kinds.{Dens, ended_of}
 use Rattle.words.specs.Text.{Written}
 use Rattle.words.proofs.line.put_line.Reads as put-line
 use Rattle.words.proofs.line.put_line.Kinds as put-line-kinds
@@ -15,12 +15,6 @@ use Rattle.words.proofs.line.put_note.Kinds as put-note-kinds
 pub written_unique : {text before after after' : List ℕ} {r r' : ℕ} → Written text before after r → Written text before after' r'
     → (r ≡ r') × (after ≡ after')
 written_unique w w' = (w.count ∙ sym w'.count, w.bytes ∙ sym w'.bytes)
-
--- the claim of an `ensures` fixes the result and a buffer
-abbrev pub Fixes : (ps : List (ParamKind 1)) (r : ResultKind 1) → Out 1 ps r → ((κs : Lfts 1) → AtExit (ended_of 1 ps r) κs → List ℕ) → Type 0
-Fixes ps r Post buffer =
-    (κs : Lfts 1) (a : Dens κs ps) (x x' : (res_t r κs).Denot) (s s' : AtExit (ended_of 1 ps r) κs)
-    → Post κs a x s → Post κs a x' s' → (x ≡ x') × (buffer κs s ≡ buffer κs s')
 
 pub put_line_fixes : (κs : Lfts 3) (a : Dens κs put-line-kinds.ps) (x x' : ℕ) (s s' : AtExit (ended_of 3 put-line-kinds.ps put-line-kinds.r) κs)
     → put-line.Post κs a x s → put-line.Post κs a x' s' → (x ≡ x') × (s.0.now ≡ s'.0.now)

@@ -2,6 +2,5 @@
 // lends.
 #![tactic(auto)]
 
-mod bytes;
-mod decimal;
 pub mod line;
+mod writer;

@@ -1,12 +1,6 @@
--- `words::line::put_line` meets its contract. The loop's invariant: the first i numbers are put after the word.
-use mathlib.Core.Path.{◌≡◌}
-use Prim.Native.Nat.{◌-◌, ◌≤◌}
-use lib.ListN.{length}
-use Rattle.words.proofs.LineLaws.{PutFirst}
+-- `words::line::put_line` meets its contract. The loop's invariant: the numbers so far are written after the word.
+use Rattle.words.proofs.LineLaws.{WroteFirst}
 use Rattle.words.proofs.line.put_line.Given as goal
 
-abbrev pub invariant-loop-i : goal.invariant-loop-i
-invariant-loop-i l = (l.i ≤ length l.numbers) × (l.i-end ≡ length l.numbers) × PutFirst l.numbers l.i l.initial.at l.initial.out l.out l.at
-
-abbrev pub decreases-loop-i : goal.decreases-loop-i
-decreases-loop-i l = length l.numbers - l.i
+abbrev pub invariant-loop-number : goal.invariant-loop-number
+invariant-loop-number l = WroteFirst l.numbers l.number-index l.initial.line l.line

@@ -1,13 +1,15 @@
--- `words::line::put_note` meets its contract: a word, a number, the rest and a line feed, each put at the place past the one before it.
-use native.Mathlib.Omega.{arith}
-use Rattle.numbers.proofs.PutLaws.{put_then}
-use Rattle.words.proofs.PutLaws.{written}
+-- `words::line::put_note` meets its contract: a word, a number, the rest and a line feed, each written past the one before it.
+use mathlib.Core.Path.{refl}
+use Rattle.std.proofs.Common.{rules}
+use Rattle.words.proofs.WritingLaws.{wrote_then, written}
 use Rattle.words.specs.Text.{note}
 use Rattle.words.proofs.line.put_note.Goals as goal
 
 pub returns : goal.returns
 unfolding note
 returns c =
-    let word = c.put_word-counted.ensures in
-    let said = put_then (put_then word c.put_field-said.ensures.0) c.put_word-ended.ensures in
-    written (put_then said c.put_byte.ensures) (omega arith)
+    let said = wrote_then (wrote_then c.word.ensures c.field.ensures.0) c.word-2.ensures in
+    let all = wrote_then said c.byte.ensures in
+    let name = all.name in
+    let text = written refl all in
+    search rules
