@@ -6,8 +6,7 @@ use native.Mathlib.Decide.{dec_lt}
 use native.Mathlib.Omega.{arith}
 use Rattle.files.specs.Table.{Table}
 use Rattle.model.specs.Positions.{base_p, base_q, at_g, at_p, at_q, fact_at}
-use Rattle.positions.specs.declared.plan.Plan.{Plan}
-use Rattle.positions.specs.Plans.{Planned, plan_of}
+use Rattle.positions.specs.Plans.{Plan, Planned, plan_of}
 use Rattle.positions.proofs.Places.{called}
 use Rattle.fact_text.specs.Facts.{bare_table, plan_fact}
 

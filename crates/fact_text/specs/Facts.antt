@@ -3,7 +3,7 @@ use Rattle.std.specs.Prelude.{[], ℕ}
 use Rattle.files.specs.Table.{Table}
 use Rattle.model.specs.Rules.{Fact, G, P, Q}
 use Rattle.model.specs.Positions.{fact_at}
-use Rattle.positions.specs.declared.plan.Plan.{Plan}
+use Rattle.positions.specs.Plans.{Plan}
 use Rattle.fact_text.specs.declared.facts.FactFields.{FactFields}
 use Rattle.fact_text.specs.declared.facts.FactFields.TheVariants as fields
 

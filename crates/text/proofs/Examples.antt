@@ -1,6 +1,7 @@
 -- The lines that the document prints, and what two of them are refused for, are those of the definitions, by computation.
 use mathlib.Core.Path.{◌≡◌, refl}
 use mathlib.Core.List.{[], ◌∷◌, ◌++◌}
+use Rattle.std.specs.Prelude.{None, Some}
 use Rattle.words.specs.Text.{bytes, digits, decimal, fields, line, note}
 use Rattle.text.specs.Listing.{facts_line, possible_line, refused_line, bytes_line, accepted_line, claim_refused_line}
 use Rattle.text.specs.Reasons.{reasons, reason_line}
@@ -26,7 +27,9 @@ unfolding digits decimal fields line
 claims = refl
 
 -- what the last two are refused for; 0 and a number above 12 have no line
-refused_for : reason_line 10 23 0 ++ reason_line 1 1 1 ++ reason_line 0 5 0 ++ reason_line 13 0 0
-    ≡ bytes "position 23: a rule gives this fact, and the claim lacks it\nclaim byte 1: the file ends here, and more is due\n"
+refused_for : (reason_line 10 23 0 ≡ Some (bytes "position 23: a rule gives this fact, and the claim lacks it\n"))
+    × (reason_line 1 1 1 ≡ Some (bytes "claim byte 1: the file ends here, and more is due\n"))
+    × (reason_line 0 5 0 ≡ None)
+    × (reason_line 13 0 0 ≡ None)
 unfolding digits decimal note reasons
-refused_for = refl
+refused_for = (refl, refl, refl, refl)

@@ -1,22 +1,16 @@
--- The numbers of a witness.
-use mathlib.Core.Path.{◌≡◌, sym, ◌∙◌}
-use mathlib.Core.List.{List, ◌∷◌}
-use Prim.Native.Nat.{ℕ, suc, min, ◌+◌, ◌≤◌}
-use native.Mathlib.Decide.{dec_le}
+-- A line's text, and the numbers of a witness.
+use mathlib.Core.Path.{◌≡◌, refl, ap}
+use mathlib.Core.List.{List}
+use Prim.Native.Nat.{ℕ, ◌+◌, ◌≤◌}
 use native.Mathlib.Omega.{arith}
 use lib.ListN.{length, take}
-use lib.Seq.{take_all}
+use lib.Seq.{length-sets}
+use Rattle.std.proofs.lemmas.List.{take_at}
+use Rattle.std.proofs.lemmas.List.Edits.{sets-eq}
+use Rattle.words.specs.Text.{Written}
 
--- more than all of a list is all of it
-take_least : (n : ℕ) (ls : List ℕ) → take (min n (length ls)) ls ≡ take n ls
-take_least n ls = go (dec_le n (length ls))
-  where
-    go : Dec (n ≤ length ls) → take (min n (length ls)) ls ≡ take n ls
-    go (yes h) = let e : min n (length ls) ≡ n = omega arith in rw e
-    go (no h) = take_all (min n (length ls)) ls (omega arith) ∙ sym (take_all n ls (omega arith))
-
-pub row_g_locals : (row g n : ℕ) (ls : List ℕ) → length ls ≡ 4
-    → take (2 + min n 4) (row ∷ g ∷ ls) ≡ row ∷ g ∷ take n ls
-row_g_locals row g n ls e =
-    let two : 2 + min n 4 ≡ suc (suc (min n (length ls))) = omega arith in
-    rw (two, take_least)
+-- what is written at the start of a buffer is its first bytes
+pub written_text : {text before after : List ℕ} {r : ℕ} → Written text before after r → take r after ≡ text
+written_text {text} {before} {after} {r} w =
+    let room : 0 + length text ≤ length before = omega (arith, w.count, w.room.0, ap length w.bytes, length-sets before 0 text) in
+    rw (w.bytes, w.count, sets-eq text before 0 room) (take_at text _ _ refl)

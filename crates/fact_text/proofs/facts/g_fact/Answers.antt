@@ -1,8 +1,9 @@
 -- `fact_text::facts::g_fact` meets its contract: the digits of i, taken off from the right as model's at_g does. No size is 0.
-use mathlib.Core.Path.{refl}
+use mathlib.Core.Path.{ap}
 use Rattle.model.specs.Positions.{at_g}
+use Rattle.fact_text.specs.Facts.{bare_table, fields_of}
 use Rattle.fact_text.proofs.facts.g_fact.Goals as goal
 
 pub returns : goal.returns
 unfolding at_g
-returns c = refl
+returns c = ap (λ s. fields_of (at_g (bare_table s) c.args.i)) c.s.view_is

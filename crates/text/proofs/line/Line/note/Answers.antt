@@ -1,0 +1,6 @@
+-- `text::line::Line::note` meets its contract: the line's text is what was written.
+use Rattle.text.proofs.LineLaws.{written_text}
+use Rattle.text.proofs.line.Line.note.Goals as goal
+
+pub returns : goal.returns
+returns c = written_text c.put_note-len.ensures
