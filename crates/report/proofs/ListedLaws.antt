@@ -1,36 +1,28 @@
 -- What the next mark is, is listed next.
 --     next_short, next_none, next_line      what comes next, by a table's plan
 --     goes_on                               after a line, the list goes on further on
---     was_read, was_refused, got_header     what the header's reader tells
+--     got_header                            the header that was read is one
 --     header_sizes                          a header that was read has a plan
-use mathlib.Core.Path.{◌≡◌, sym, ap, subst, ◌∙◌}
+use mathlib.Core.Path.{◌≡◌, ap, ◌∙◌}
 use mathlib.Core.List.{List}
 use Prim.Native.Nat.{ℕ, ◌+◌, ◌≤◌, ◌<◌}
 use native.Mathlib.Omega.{arith}
 use lib.ListN.{length}
-use lib.Seq.{length-sets}
-use Rattle.numbers.specs.declared.refusals.Refusal.{Refusal}
-use Rattle.numbers.specs.Reading.{Out, got, bad}
+use Rattle.numbers.specs.Reading.{got}
 use Rattle.numbers.proofs.ReadingLaws.{never}
 use Rattle.files.specs.declared.header.Header.{Header}
-use Rattle.files.specs.declared.header.HeaderRead.{HeaderRead}
-use Rattle.reader.specs.declared.ends.End.TheVariants.{Past, Refused}
 use Rattle.files.specs.Table.{Table, W, most_threads, most_shared, most_locals, most_frames}
-use Rattle.files.specs.Header.{header_at, header_read_of}
+use Rattle.files.specs.Header.{header_at}
 use Rattle.files.proofs.TableLaws.{header_fits}
-use Rattle.model.specs.Rules.{Fact}
 use Rattle.model.specs.Positions.{fact_at}
-use Rattle.positions.specs.declared.plan.Plan.{Plan}
-use Rattle.positions.specs.Plans.{plan_of}
+use Rattle.positions.specs.Plans.{Plan, plan_of}
 use Rattle.store.specs.Marking.{Has, MarkFrom, NextMark}
 use Rattle.positions.proofs.PlanIsModel.{w_is}
-use Rattle.store.proofs.NextLaws.{next_found, next_end}
-use Rattle.words.specs.Text.{Counts, Written}
 use Rattle.fact_text.specs.FactLines.{fact_line}
 use Rattle.fact_text.specs.Facts.{plan_fact}
 use Rattle.fact_text.proofs.FactLaws.{fact_of_table}
-use Rattle.report.specs.declared.facts.Next.{Next}
-use Rattle.report.specs.declared.facts.Next.TheVariants.{Line, End}
+use Rattle.std.specs.Prelude.{Option, None, Some}
+use Rattle.report.specs.declared.facts.ListedFact.{ListedFact}
 use Rattle.report.specs.Listed.{Listed, NextIn, line, end, MarkedIn, NextOf, read, refused}
 
 -- ---- what comes next
@@ -51,64 +43,37 @@ module _ (T : Table) {s : Plan} (is : s ≡ plan_of T) where
     listed_of r k =
         record { past = k.past; below = omega (arith, w_of_lem, k.below); here = record { enough = omega (arith, w_of_lem); one = k.has } }
 
-    module _ {before : List ℕ} where
-      pub next_short : length mem < s.w → NextIn T (MarkedIn T mem) from before End before
-      next_short l = end (λ p k. omega (arith, w_of_lem, k.here.enough))
+    pub next_short : length mem < s.w → NextIn T (MarkedIn T mem) from None
+    next_short l = end (λ p k. omega (arith, w_of_lem, k.here.enough))
 
-      module _ {p : ℕ} where
-        pub next_none : NextMark mem from s.w p → p ≡ s.w → NextIn T (MarkedIn T mem) from before End before
-        next_none m e = end (λ q k. next_end m e q (mark_of k))
+    pub next_none : NextMark mem from s.w None → NextIn T (MarkedIn T mem) from None
+    next_none none = end (λ p k. none p (mark_of k))
 
-        pub next_line : {k : ℕ} {after : List ℕ} → s.w ≤ length mem → NextMark mem from s.w p → ¬ (p ≡ s.w)
-            → Written (fact_line (plan_fact s p)) before after k → NextIn T (MarkedIn T mem) from before (Line k (p + 1)) after
-        next_line {k} {after} r m n w =
-            let f = next_found m n in
-            line (record { here = listed_of r f.here; none = λ q b i. f.none q b (mark_of i) })
-            (subst (λ (x : Fact). Written (fact_line x) before after k) (ap (λ (x : Plan). plan_fact x p) is ∙ fact_of_table T p) w)
+    pub next_line : {p : ℕ} {text : List ℕ} → s.w ≤ length mem → NextMark mem from s.w (Some p) → text ≡ fact_line (plan_fact s p)
+        → NextIn T (MarkedIn T mem) from (Some (record { line = text; next = p + 1 }))
+    next_line {p} {text} r f e =
+        let is-line : text ≡ fact_line (fact_at T p) = e ∙ ap fact_line (ap (λ (x : Plan). plan_fact x p) is ∙ fact_of_table T p) in
+        rw is-line (line (record { here = listed_of r f.here; none = λ q b i. f.none q b (mark_of i) }))
 
 -- ---- going on
 
--- after a line the list goes on further on, and no further than the memory; and the line is in its buffer
-pub record GoesOn (mem : List ℕ) (from : ℕ) (before after : List ℕ) (k next : ℕ) : Type 0 where
+-- after a line the list goes on further on, and no further than the memory
+pub record GoesOn (mem : List ℕ) (from next : ℕ) : Type 0 where
   pub further : from < next
   pub within : next ≤ length mem
-  pub here : Counts k after
-  pub same : length after ≡ length before
 
-module _ {mem : List ℕ} {from : ℕ} {before : List ℕ} {k next : ℕ} where
-  goes_on_in : (T : Table) {r : Next} {after : List ℕ} → NextIn T (MarkedIn T mem) from before r after → r ≡ Line k next
-      → GoesOn mem from before after k next
-  goes_on_in T (line {p} {written = j} f w) e =
-      let n : p + 1 ≡ next = cc in
-      let l : j ≡ k = cc in
-      record {
-        further = omega (arith, f.here.past);
-        within = omega (arith, f.here.below, f.here.here.enough);
-        here = rw (sym l) w.room;
-        same = ap length w.bytes ∙ length-sets before 0 (fact_line (fact_at T p));
-      }
+module _ {mem : List ℕ} {from : ℕ} {fact : ListedFact} where
+  goes_on_in : (T : Table) {r : Option ListedFact} → NextIn T (MarkedIn T mem) from r → r ≡ Some fact → GoesOn mem from fact.next
+  goes_on_in T (line {p} f) e =
+      let n : p + 1 ≡ fact.next = cc in
+      record { further = omega (arith, f.here.past); within = omega (arith, f.here.below, f.here.here.enough) }
   goes_on_in T (end none) e = never (cc)
 
-  pub goes_on : {s : List ℕ} {r : Next} {after : List ℕ} → NextOf s mem from before r after → r ≡ Line k next → GoesOn mem from before after k next
+  pub goes_on : {s : List ℕ} {r : Option ListedFact} → NextOf s mem from r → r ≡ Some fact → GoesOn mem from fact.next
   goes_on (read _ n) e = goes_on_in _ n e
   goes_on (refused _) e = never (cc)
 
 -- ---- the header
-
-past_read : (o : Out Header) {n : ℕ} → (header_read_of o).end ≡ Past n → o ≡ got (header_read_of o).header n
-past_read (got h next) {n} e = let m : next ≡ n = cc in ap (got h) m
-past_read (bad x) e = never (cc)
-
-refusal_read : (o : Out Header) {x : Refusal} → (header_read_of o).end ≡ Refused x → o ≡ bad x
-refusal_read (got h next) e = never (cc)
-refusal_read (bad y) {x} e = let m : y ≡ x = cc in ap bad m
-
-module _ (o : Out Header) {r : HeaderRead} (is : r ≡ header_read_of o) where
-  pub was_read : {n : ℕ} → r.end ≡ Past n → o ≡ got r.header n
-  was_read e = rw is (past_read o (rw is at e))
-
-  pub was_refused : {x : Refusal} → r.end ≡ Refused x → o ≡ bad x
-  was_refused e = refusal_read o (rw is at e)
 
 -- the header that was read is one
 pub got_header : {h h' : Header} {n n' : ℕ} → got h n ≡ got h' n' → h ≡ h'

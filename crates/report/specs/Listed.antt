@@ -1,5 +1,5 @@
 -- The facts that a listing prints, "in position order", and the line of the next one (document 01, "Reference tables and results").
-use Rattle.std.specs.Prelude.{◌≡◌, List, [], ℕ, ◌+◌, ◌≤◌, ◌<◌, length}
+use Rattle.std.specs.Prelude.{◌≡◌, List, [], ℕ, ◌+◌, ◌≤◌, ◌<◌, length, Option, None, Some}
 use Rattle.numbers.specs.declared.refusals.Refusal.{Refusal}
 use Rattle.numbers.specs.Reading.{got, bad}
 use Rattle.files.specs.declared.header.Header.{Header}
@@ -9,10 +9,8 @@ use Rattle.files.specs.File.{table_of}
 use Rattle.model.specs.Positions.{fact_at}
 use Rattle.model.specs.Memory.{mark}
 use Rattle.model.specs.Claims.{First}
-use Rattle.words.specs.Text.{Written}
 use Rattle.fact_text.specs.FactLines.{fact_line}
-use Rattle.report.specs.declared.facts.Next.{Next}
-use Rattle.report.specs.declared.facts.Next.TheVariants.{Line, End}
+use Rattle.report.specs.declared.facts.ListedFact.{ListedFact}
 
 -- the fact at p is listed, from `from` on: p is a position of the table, and one of A
 pub record Listed (T : Table) (A : ℕ → Type 0) (from p : ℕ) : Type 0 where
@@ -20,12 +18,11 @@ pub record Listed (T : Table) (A : ℕ → Type 0) (from p : ℕ) : Type 0 where
   pub below : p < W T
   pub here : A p
 
--- What comes next, where the positions A are listed: the line of the first fact from `from` on, and the position past it; or, where there is none,
--- the end, with nothing written. A line is written into a buffer that held `before`.
-pub data NextIn (T : Table) (A : ℕ → Type 0) (from : ℕ) (before : List ℕ) : Next → List ℕ → Type 0 where
-  line : {p written : ℕ} {after : List ℕ} → First (Listed T A from) p → Written (fact_line (fact_at T p)) before after written
-      → NextIn T A from before (Line written (p + 1)) after
-  end : ((p : ℕ) → ¬ Listed T A from p) → NextIn T A from before End before
+-- What comes next, where the positions A are listed: the line of the first fact from `from` on, and the position past it; or nothing, where there is
+-- none.
+pub data NextIn (T : Table) (A : ℕ → Type 0) (from : ℕ) : Option ListedFact → Type 0 where
+  line : {p : ℕ} → First (Listed T A from) p → NextIn T A from (Some (record { line = fact_line (fact_at T p); next = p + 1 }))
+  end : ((p : ℕ) → ¬ Listed T A from p) → NextIn T A from None
 
 -- the positions that are marked, in a memory that has room for all facts of the table
 pub record MarkedIn (T : Table) (mem : List ℕ) (p : ℕ) : Type 0 where
@@ -34,7 +31,7 @@ pub record MarkedIn (T : Table) (mem : List ℕ) (p : ℕ) : Type 0 where
 
 -- What comes next, of a table file. Where the facts stand hangs on the sizes alone, so a table of its header and no rows serves; and where the
 -- header is refused there is no fact.
-pub data NextOf (s : List ℕ) (mem : List ℕ) (from : ℕ) (before : List ℕ) : Next → List ℕ → Type 0 where
-  read : {h : Header} {past : ℕ} {r : Next} {after : List ℕ} → header_at s ≡ got h past
-      → NextIn (table_of h [] [] [] []) (MarkedIn (table_of h [] [] [] []) mem) from before r after → NextOf s mem from before r after
-  refused : {x : Refusal} → header_at s ≡ bad x → NextOf s mem from before End before
+pub data NextOf (s : List ℕ) (mem : List ℕ) (from : ℕ) : Option ListedFact → Type 0 where
+  read : {h : Header} {past : ℕ} {r : Option ListedFact} → header_at s ≡ got h past
+      → NextIn (table_of h [] [] [] []) (MarkedIn (table_of h [] [] [] []) mem) from r → NextOf s mem from r
+  refused : {x : Refusal} → header_at s ≡ bad x → NextOf s mem from None

@@ -1,22 +1,17 @@
 -- `report::facts::next_fact` meets its contract: the header that is read is the file's, and its sizes make the plan.
-use mathlib.Core.Path.{◌≡◌}
-use Rattle.numbers.specs.Reading.{got}
+use mathlib.Core.Path.{sym, ◌∙◌}
+use Rattle.numbers.proofs.ReadingLaws.{part_got, part_bad}
 use Rattle.files.specs.Header.{header_at}
 use Rattle.report.specs.Listed.{read, refused}
-use Rattle.report.proofs.ListedLaws.{was_read, was_refused, header_sizes}
+use Rattle.report.proofs.ListedLaws.{header_sizes}
 use Rattle.report.proofs.facts.next_fact.Goals as goal
 
-reads : (c : goal.In-Past) → header_at c.args.table.now ≡ got c.read_header-read.result.header c.in-Past.next
-reads c =
-    was_read (header_at _) c.read_header-read.ensures c.in-Past.is
+pub of-requires : goal.of-requires
+of-requires c = header_sizes _ (part_got (header_at _) (sym c.in-Ok.is ∙ c.read_header.ensures))
 
-pub plan_by-requires : goal.plan_by-requires
-plan_by-requires c = header_sizes _ (reads c)
+pub returns-in-Ok : goal.returns-in-Ok
+returns-in-Ok c =
+    read (part_got (header_at _) (sym c.in-Ok.is ∙ c.read_header.ensures)) (c.next_in.ensures _ c.of.ensures.0)
 
-pub returns-in-Past : goal.returns-in-Past
-returns-in-Past c =
-    let reads : header_at c.args.table.now ≡ got c.read_header-read.result.header c.in-Past.next = was_read (header_at _) c.read_header-read.ensures c.in-Past.is in
-    read (reads) (c.next_in.ensures _ c.plan_by.ensures.0)
-
-pub returns-in-Refused : goal.returns-in-Refused
-returns-in-Refused c = refused (was_refused (header_at _) c.read_header-read.ensures c.in-Refused.is)
+pub returns-in-Err : goal.returns-in-Err
+returns-in-Err c = refused (part_bad (header_at _) (sym c.in-Err.is ∙ c.read_header.ensures))
