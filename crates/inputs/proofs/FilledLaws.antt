@@ -1,8 +1,7 @@
 -- Bytes that were read are within the buffer: what lending them asks.
-use Rattle.std.proofs.Common.{◌≡◌, ℕ, List}
-use Rattle.inputs.specs.declared.reading.Input.{Input}
-use Rattle.inputs.specs.declared.reading.Input.TheVariants.{Bytes}
+use Rattle.std.proofs.Common.{◌≡◌, ℕ, List, Ok}
+use Rattle.std.specs.Prelude.{Result}
 use Rattle.inputs.specs.Inputs.{Filled, IsPrefixLen}
 
-pub bytes_counted : {input : Input} {count : ℕ} (buf : List ℕ) → Filled input buf → input ≡ Bytes count → IsPrefixLen count buf
+pub bytes_counted : {E : Type 0} {input : Result ℕ E} {count : ℕ} (buf : List ℕ) → Filled input buf → input ≡ Ok count → IsPrefixLen count buf
 bytes_counted buf filled e = rw e at filled

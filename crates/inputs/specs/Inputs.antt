@@ -1,13 +1,11 @@
 -- A buffer that a file was read into.
-use Rattle.std.specs.Prelude.{◌≡◌, ◌≤◌, List, ℕ, length, take}
-use Rattle.inputs.specs.declared.reading.Input.{Input}
-use Rattle.inputs.specs.declared.reading.Input.TheVariants.{Bytes, Unread}
+use Rattle.std.specs.Prelude.{◌≡◌, ◌≤◌, List, ℕ, length, take, Result, Ok, Err}
 
 -- `&xs[..n]` is within xs, and has n bytes. The second follows from the first, and spares a caller that lends `&buf[..n]` on a proof of its own.
 abbrev pub IsPrefixLen : ℕ → List ℕ → Type 0
 IsPrefixLen n xs = (n ≤ length xs) × (n ≡ length (take n xs))
 
 -- What was read stands at the start of the buffer: so many bytes, all of them within it. Which they are the system decides.
-abbrev pub Filled : Input → List ℕ → Type 0
-Filled (Bytes count) buf = IsPrefixLen count buf
-Filled Unread buf = Unit
+abbrev pub Filled : {E : Type 0} → Result ℕ E → List ℕ → Type 0
+Filled (Ok count) buf = IsPrefixLen count buf
+Filled (Err why) buf = Unit

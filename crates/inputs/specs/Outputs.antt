@@ -1,7 +1,8 @@
 -- What may be left unprinted.
-use Rattle.std.specs.Prelude.{Bool, true, false, List, ℕ, ◌<◌, length}
+use Rattle.std.specs.Prelude.{List, ℕ, ◌<◌, length, Result, Ok, Err}
+use Rattle.inputs.specs.declared.telling.Said.{Said}
 
 -- Only some bytes can be left unprinted. Whether they are the system decides.
-abbrev pub Printed : List ℕ → Bool → Type 0
-Printed bytes true = Unit
-Printed bytes false = 0 < length bytes
+abbrev pub Printed : List ℕ → Result Unit Said → Type 0
+Printed bytes (Ok _) = Unit
+Printed bytes (Err said) = 0 < length bytes

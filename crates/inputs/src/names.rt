@@ -9,17 +9,7 @@ use std::io;
 pub fn same_name(a: &[u8], b: &[u8]) -> bool
     ensures { SameName a.now b.now result }
 {
-    if a.len() != b.len() {
-        return false;
-    }
-    let mut i: usize = 0;
-    while i < a.len() {
-        if a[i] != b[i] {
-            return false;
-        }
-        i += 1;
-    }
-    true
+    a == b
 }
 
 // The system's number of the error that bytes are no text.
@@ -31,8 +21,5 @@ pub fn path_of(name: &[u8]) -> io::Result<&str>
     ensures same { IfOk result (λ path. path.now ≡ name.now) }
     ensures refused { IfErr result (λ why. raw_os_error why ≡ Some NO_TEXT) }
 {
-    match str::from_utf8(name) {
-        Ok(path) => Ok(path),
-        Err(_) => Err(io::Error::from_raw_os_error(NO_TEXT)),
-    }
+    str::from_utf8(name).map_err(|_| io::Error::from_raw_os_error(NO_TEXT))
 }

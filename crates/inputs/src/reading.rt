@@ -2,20 +2,11 @@
 ghost use Rattle.inputs.specs.Inputs.{Filled};
 
 use crate::names::{path_of, same_name};
-use crate::telling::{Say, cannot, cannot_argument};
+use crate::telling::{Said, Say, cannot, cannot_argument};
 use std::env::FillError;
 use std::io::Read;
 use std::rt::{Env, Files};
 use std::{fs, io};
-
-// What comes of reading a file.
-#[derive(Clone, Copy)]
-pub enum Input {
-    // Its bytes stand at the start of the buffer: all of them, or as many as there is room for.
-    Bytes { count: usize },
-    // It is not read.
-    Unread,
-}
 
 // Room for the name of a file: the system takes none of so many bytes.
 pub const NAME_ROOM: usize = 4096;
@@ -25,22 +16,19 @@ pub fn has_argument(rt: &impl Env, i: usize) -> bool {
     !matches!(rt.arg(i, &mut []), Err(FillError::NotPresent))
 }
 
-// Reads an open file until the buffer is full or the file ends. A read that fails is no end: it says so, by the file's name.
-fn read_open(rt: &impl Say, file: &mut impl Read, name: &[u8], buf: &mut [u8]) -> Input
+// Reads an open file until the buffer is full or the file ends, and gives how many bytes stand at the start of the buffer. A read that fails is no end.
+// A loop, since how far it is comes from what each read gave; std's `read_to_end` is on the heap.
+fn read_open(file: &mut impl Read, buf: &mut [u8]) -> io::Result<usize>
     ensures { Filled result buf.new }
 {
     let mut done: usize = 0;
     while done < buf.len() {
-        match file.read(&mut buf[done..]) {
-            Ok(0) => return Input::Bytes { count: done },
-            Ok(count) => done += count,
-            Err(why) => {
-                cannot(rt, b"cannot read ", name, why);
-                return Input::Unread;
-            }
+        match file.read(&mut buf[done..])? {
+            0 => break,
+            count => done += count,
         }
     }
-    Input::Bytes { count: done }
+    Ok(done)
 }
 
 // Opens the file of a name to read it.
@@ -49,64 +37,59 @@ fn open<R: Files>(rt: &R, name: &[u8]) -> io::Result<R::File> {
 }
 
 // Reads the file of a name.
-fn read_named(rt: &(impl Files + Say), name: &[u8], buf: &mut [u8]) -> Input
+fn read_named(rt: &(impl Files + Say), name: &[u8], buf: &mut [u8]) -> Result<usize, Said>
     ensures { Filled result buf.new }
 {
-    match open(rt, name) {
-        Ok(mut file) => read_open(rt, &mut file, name, buf),
-        Err(why) => {
-            cannot(rt, b"cannot open ", name, why);
-            Input::Unread
-        }
-    }
+    let mut file = open(rt, name).map_err(|why| cannot(rt, b"cannot open ", name, why))?;
+    read_open(&mut file, buf).map_err(|why| cannot(rt, b"cannot read ", name, why))
 }
 
-// Reads the file that argument i names.
-pub fn read_argument(rt: &(impl Env + Files + Say), i: usize, buf: &mut [u8]) -> Input
+// Reads the file that argument i names, all of it, or as much as there is room for, and gives how many bytes of the buffer that is.
+pub fn read_argument(rt: &(impl Env + Files + Say), i: usize, buf: &mut [u8]) -> Result<usize, Said>
     ensures { Filled result buf.new }
 {
     let mut name = [0u8; NAME_ROOM];
-    match rt.arg(i, &mut name) {
-        Ok(length) => read_named(rt, &name[..length], buf),
-        Err(why) => {
-            cannot_argument(rt, b"cannot open ", i, why);
-            Input::Unread
-        }
-    }
+    let length = rt
+        .arg(i, &mut name)
+        .map_err(|why| cannot_argument(rt, b"cannot open ", i, why))?;
+    read_named(rt, &name[..length], buf)
 }
 
-// Reads standard input.
-pub fn read_standard_input(rt: &(impl io::Input + Say), buf: &mut [u8]) -> Input
+// Reads standard input, all of it, or as much as there is room for, and gives how many bytes of the buffer that is.
+pub fn read_standard_input(rt: &(impl io::Input + Say), buf: &mut [u8]) -> Result<usize, Said>
     ensures { Filled result buf.new }
 {
-    read_open(rt, &mut rt.reader(), b"standard input", buf)
+    read_open(&mut rt.reader(), buf).map_err(|why| cannot(
+        rt,
+        b"cannot read ",
+        b"standard input",
+        why,
+    ))
 }
 
-// Whether arguments 1 and 2, the table and the claim, are one name. Where they are says so.
-fn one_name(rt: &(impl Env + Say)) -> bool {
+// Where arguments 1 and 2, the table and the claim, are one name, says so.
+fn two_names(rt: &(impl Env + Say)) -> Result<(), Said> {
     let mut table = [0u8; NAME_ROOM];
     let Ok(n) = rt.arg(1, &mut table) else {
-        return false;
+        return Ok(());
     };
     let mut claim = [0u8; NAME_ROOM];
     let Ok(m) = rt.arg(2, &mut claim) else {
-        return false;
+        return Ok(());
     };
     if !same_name(&table[..n], &claim[..m]) {
-        return false;
+        return Ok(());
     }
     rt.say(b"the table and the claim are the same file: ");
     rt.say(&table[..n]);
     rt.say(b"\n");
-    true
+    Err(Said)
 }
 
 // Reads the table, the file that argument 1 names. Where argument 2, the claim, is the same name, nothing is opened.
-pub fn read_table(rt: &(impl Env + Files + Say), buf: &mut [u8]) -> Input
+pub fn read_table(rt: &(impl Env + Files + Say), buf: &mut [u8]) -> Result<usize, Said>
     ensures { Filled result buf.new }
 {
-    if one_name(rt) {
-        return Input::Unread;
-    }
+    two_names(rt)?;
     read_argument(rt, 1, buf)
 }

@@ -6,7 +6,6 @@ use report::answers::reason_of_reply;
 use std::env::FillError;
 use std::fmt::InlineText;
 use std::io;
-use text::lines::ROOM;
 
 // What says bytes on standard error. `Eprint` takes text alone, and the name of a file may be none.
 pub trait Say {
@@ -33,11 +32,16 @@ fn say_why(rt: &impl Say, why: io::Error) {
     rt.say(b"\n");
 }
 
+// What failed is said on standard error, and no more is to be said of it.
+#[derive(Clone, Copy, Debug)]
+pub struct Said;
+
 // Says what cannot be done with a file, by its name and the system's reason.
-pub fn cannot(rt: &impl Say, what: &[u8], name: &[u8], why: io::Error) {
+pub fn cannot(rt: &impl Say, what: &[u8], name: &[u8], why: io::Error) -> Said {
     rt.say(what);
     rt.say(name);
     say_why(rt, why);
+    Said
 }
 
 // The system's numbers of the errors that an argument is not valid, and that a name is too long.
@@ -46,7 +50,7 @@ const NOT_VALID: i32 = 22;
 const TOO_LONG: i32 = 36;
 
 // Says what cannot be done with argument i where `Env::arg` gives no name: it is too long for one, or missing.
-pub fn cannot_argument(rt: &impl Say, what: &[u8], i: usize, why: FillError) {
+pub fn cannot_argument(rt: &impl Say, what: &[u8], i: usize, why: FillError) -> Said {
     let number = match why {
         FillError::NotPresent => NOT_VALID,
         FillError::TooLong => TOO_LONG,
@@ -54,28 +58,22 @@ pub fn cannot_argument(rt: &impl Say, what: &[u8], i: usize, why: FillError) {
     // 20 digits at most
     let name = InlineText::<32>::of(format_args!("argument {i}"));
     let why = io::Error::from_raw_os_error(number);
-    cannot(rt, what, name.as_str().as_bytes(), why);
+    cannot(rt, what, name.as_str().as_bytes(), why)
 }
 
-// Prints bytes on standard output, and gives whether they are printed. Where they are not says so. No bytes are always printed.
-pub fn print(rt: &(impl Print + Say), bytes: &[u8]) -> bool
+// Prints bytes on standard output. Where they are not printed says so. No bytes are always printed.
+pub fn print(rt: &(impl Print + Say), bytes: &[u8]) -> Result<(), Said>
     ensures { Printed bytes.now result }
 {
-    if bytes.len() == 0 {
-        return true;
+    if bytes.is_empty() {
+        return Ok(());
     }
-    match rt.write_all(bytes) {
-        Ok(()) => true,
-        Err(why) => {
-            cannot(rt, b"cannot write ", b"standard output", why);
-            false
-        }
-    }
+    rt.write_all(bytes).map_err(|why| cannot(rt, b"cannot write ", b"standard output", why))
 }
 
 // Says a refusal in words, on standard error: what its value counts, and what is wrong. Of an answer that is none, nothing.
 pub fn say_refusal(rt: &impl Say, reply: Reply) {
-    let mut line = [0u8; ROOM];
-    let length = reason_of_reply(reply, &mut line);
-    rt.say(&line[..length]);
+    if let Some(line) = reason_of_reply(reply) {
+        rt.say(line.as_bytes());
+    }
 }
