@@ -3,55 +3,39 @@
 // is wrong with a file, is said on standard error.
 #![tactic(auto)]
 
-ghost use Rattle.std.specs.Prelude.{◌≡◌, ◌+◌, length};
-ghost use Rattle.files.specs.Table.{most_facts};
 ghost use Rattle.claim_write_call.specs.AnyTable.{AnyWritten};
 
 use claim_report::written::{bytes_line, first_line, verdict_line};
-use claim_write_call::answer::{WriteAnswer, write_reply_of};
+use claim_write_call::answer::{WriteRefusal, Written, write_reply_of};
 use claim_write_call::write::write_claim;
 use files::header::MOST_FACTS;
+use inputs::memory::zeros;
 use inputs::names::path_of;
-use inputs::reading::{Input, NAME_ROOM, has_argument, read_table};
-use inputs::telling::{Say, cannot, cannot_argument, print, say_refusal};
+use inputs::reading::{NAME_ROOM, has_argument, read_table};
+use inputs::telling::{Said, Say, cannot, cannot_argument, print, say_refusal};
 use std::fs::OpenFile;
 use std::io::{ErrorKind, Write};
 use std::rt::{Env, Files};
 use std::{fs, io};
-use text::lines::ROOM;
-
-// Working memory for any table: the largest W.
-fn memory() -> [u8; MOST_FACTS]
-    ensures { most_facts ≡ length result }
-{
-    [0; MOST_FACTS]
-}
 
 // No claim is longer (`claim_reader:ClaimLength.claim_length`). The claim of all positions is as long as this.
 const CLAIM_MOST: usize = MOST_FACTS + 5;
 
-// Space for any claim.
-fn space() -> [u8; CLAIM_MOST]
-    ensures { most_facts + 5 ≡ length result }
-{
-    [0; CLAIM_MOST]
-}
-
 // Prints the lines of an answer, as far as they can be printed; a refusal is said in words too.
-fn tell(rt: &(impl Print + Say), table: &[u8], answer: WriteAnswer) {
-    let mut line = [0u8; ROOM];
-    let first = first_line(answer, &mut line);
-    if !print(rt, &line[..first]) {
-        return;
+fn tell(
+    rt: &(impl Print + Say),
+    table: &[u8],
+    answer: Result<Written, WriteRefusal>,
+) -> Result<(), Said> {
+    print(rt, first_line(answer).as_bytes())?;
+    if let Some(line) = verdict_line(table, answer) {
+        print(rt, line.as_bytes())?;
     }
-    let second = verdict_line(table, answer, &mut line);
-    if !print(rt, &line[..second]) {
-        return;
+    if let Some(line) = bytes_line(answer) {
+        print(rt, line.as_bytes())?;
     }
-    let third = bytes_line(answer, &mut line);
-    if print(rt, &line[..third]) {
-        say_refusal(rt, write_reply_of(answer));
-    }
+    say_refusal(rt, write_reply_of(answer));
+    Ok(())
 }
 
 // Waits until the system has taken in what was written to a file. What is wrong with that it may else say only as the file is closed, and a file that is
@@ -70,55 +54,38 @@ fn overwrite(rt: &impl Files, claim: &[u8], name: &[u8]) -> io::Result<()> {
     settle(&file)
 }
 
-// Writes a claim to the file of a name, and gives whether it is written. Where it is not says so, after the file is closed: where standard error
-// was closed from the start, the file has its number.
-fn write(rt: &(impl Files + Say), claim: &[u8], name: &[u8]) -> bool {
-    match overwrite(rt, claim, name) {
-        Ok(()) => true,
-        Err(why) => {
-            cannot(rt, b"cannot write ", name, why);
-            false
-        }
-    }
-}
-
-// Writes a claim to the file that the second argument names, and gives whether it is written. Where it is not says so.
-fn save(rt: &(impl Env + Files + Say), claim: &[u8]) -> bool {
+// Writes a claim to the file that the second argument names. Where it is not written says so, after the file is closed: where standard error was closed
+// from the start, the file has its number.
+fn save(rt: &(impl Env + Files + Say), claim: &[u8]) -> Result<(), Said> {
     let mut name = [0u8; NAME_ROOM];
-    match rt.arg(2, &mut name) {
-        Ok(length) => write(rt, claim, &name[..length]),
-        Err(why) => {
-            cannot_argument(rt, b"cannot write ", 2, why);
-            false
-        }
-    }
+    let length = rt
+        .arg(2, &mut name)
+        .map_err(|why| cannot_argument(rt, b"cannot write ", 2, why))?;
+    let name = &name[..length];
+    overwrite(rt, claim, name).map_err(|why| cannot(rt, b"cannot write ", name, why))
 }
 
 // Checks any table and writes its claim: the table is refused, or the claim is written. No table has more facts than the memory and the budget, and no
 // claim is longer than the space.
-fn write_any(table: &[u8], mem: &mut [u8; MOST_FACTS], space: &mut [u8; CLAIM_MOST]) -> WriteAnswer
+fn write_any(
+    table: &[u8],
+    mem: &mut [u8; MOST_FACTS],
+    space: &mut [u8; CLAIM_MOST],
+) -> Result<Written, WriteRefusal>
     ensures { AnyWritten table.now mem.old space.old result mem.new space.new }
 {
     write_claim(table, mem, MOST_FACTS, space)
 }
 
 // Checks a table and writes its claim.
-fn run(rt: &(impl Env + Files + Print + Say), table: &[u8]) {
-    let mut mem = memory();
-    let mut space = space();
+fn run(rt: &(impl Env + Files + Print + Say), table: &[u8]) -> Result<(), Said> {
+    let mut mem: [u8; MOST_FACTS] = zeros();
+    let mut space: [u8; CLAIM_MOST] = zeros();
     let answer = write_any(table, &mut mem, &mut space);
-    match answer {
-        WriteAnswer::Written {
-            count: _,
-            verdict: _,
-            bytes,
-        } => {
-            if save(rt, &space[..bytes]) {
-                tell(rt, table, answer);
-            }
-        }
-        _ => tell(rt, table, answer),
+    if let Ok(written) = answer {
+        save(rt, &space[..written.bytes])?;
     }
+    tell(rt, table, answer)
 }
 
 fn main(rt: HostRuntime) {
@@ -128,8 +95,7 @@ fn main(rt: HostRuntime) {
     }
     // what comes back of so many bytes comes back of the whole file (`claims:Cuts.claim_writing_cut`)
     let mut table = [0u8; 65536];
-    match read_table(&rt, &mut table) {
-        Input::Bytes { count } => run(&rt, &table[..count]),
-        Input::Unread => {}
+    if let Ok(count) = read_table(&rt, &mut table) {
+        let _ = run(&rt, &table[..count]);
     }
 }
