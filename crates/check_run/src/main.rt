@@ -4,11 +4,11 @@
 // table that takes all of the bench's memory and budget.
 #![tactic(auto)]
 
-use check_call::answer::Answer;
+ghost use Rattle.std.specs.Prelude.{◌<◌, ◌≤◌};
+
 use check_call::check::check;
 use report::answers::{first_line, verdict_line};
 use std::io;
-use text::lines::ROOM;
 
 // ---- a check, and what comes back
 
@@ -18,73 +18,54 @@ const MOST: usize = 9600;
 // What each byte of the memory is before a check. No mark is so large.
 const FILL: u8 = 0xAA;
 
-// Prints the lines of an answer.
-fn tell(rt: &impl Print, table: &[u8], answer: Answer) -> io::Result<()> {
-    let mut line = [0u8; ROOM];
-    let first = first_line(answer, &mut line);
-    rt.write_all(&line[..first])?;
-    let second = verdict_line(table, answer, &mut line);
-    rt.write_all(&line[..second])
-}
-
-// Checks a table in the first bytes of a memory, and prints the answer.
-fn check_in(
-    rt: &impl Print,
-    table: &[u8],
-    mem: &mut [u8],
-    bytes: usize,
-    budget: usize,
-) -> io::Result<()> {
-    if bytes <= mem.len() {
-        let answer = check(table, &mut mem[..bytes], budget);
-        tell(rt, table, answer)?;
+// Checks a table in a memory, and prints the lines of the answer.
+fn check_in(rt: &impl Print, table: &[u8], mem: &mut [u8], budget: usize) -> io::Result<()> {
+    let answer = check(table, mem, budget);
+    rt.write_all(first_line(answer).as_bytes())?;
+    match verdict_line(table, answer) {
+        Some(line) => rt.write_all(line.as_bytes()),
+        None => Ok(()),
     }
-    Ok(())
 }
 
 // Checks a table in a memory of so many bytes.
-fn run(rt: &impl Print, table: &[u8], bytes: usize, budget: usize) -> io::Result<()> {
+fn run(rt: &impl Print, table: &[u8], bytes: usize, budget: usize) -> io::Result<()>
+    requires { bytes ≤ MOST }
+{
     let mut mem = [FILL; MOST];
-    check_in(rt, table, &mut mem, bytes, budget)
+    check_in(rt, table, &mut mem[..bytes], budget)
 }
 
 // ---- the reference tables
 
-// W is 36, and there are 5 facts.
+// W is 36, and there are 5 facts. This table and the smallest stand in `claim_calls_run` too: `training` holds the tables that the specs state.
 const RECURSION: [u8; 29] = *b"\x01\x01\x02\x02\x01\x00\x00\x00\
     \x01\x00\x00\x00\x01\x01\
     \x01\x00\x00\x00\x00\x00\
     \x01\x00\x01\x01\x00\x01\
     \x01\x02\x01";
 
-fn run_recursion(rt: &impl Print, bytes: usize, budget: usize) -> io::Result<()> {
-    run(rt, &RECURSION, bytes, budget)
-}
-
 // Memory and budget that are more than enough, exact, and one short.
 fn recursion(rt: &impl Print) -> io::Result<()> {
-    run_recursion(rt, MOST, 65536)?;
-    run_recursion(rt, 36, 5)?;
-    run_recursion(rt, 36, 4)?;
-    run_recursion(rt, 35, 5)
+    run(rt, &RECURSION, MOST, 65536)?;
+    run(rt, &RECURSION, 36, 5)?;
+    run(rt, &RECURSION, 36, 4)?;
+    run(rt, &RECURSION, 35, 5)
 }
 
 // W is 2, and there is one fact.
 const SMALLEST: [u8; 12] = [1, 1, 1, 1, 0, 0, 0, 0, 0, 0, 0, 0];
 
 fn smallest(rt: &impl Print) -> io::Result<()> {
-    let table = SMALLEST;
-    run(rt, &table, MOST, 1)?;
-    run(rt, &table, MOST, 0)?;
-    run(rt, &table, 1, 1)?;
-    run(rt, &table[..11], MOST, 1)?;
-    run(rt, &table[..0], MOST, 1)?;
-    let failed: [u8; 12] = [1, 1, 1, 1, 0, 1, 0, 0, 0, 0, 0, 0];
-    run(rt, &failed, MOST, 1)?;
-    let five_threads: [u8; 12] = [1, 5, 1, 1, 0, 0, 0, 0, 0, 0, 0, 0];
-    run(rt, &five_threads, MOST, 1)?;
-    let longer: [u8; 13] = [1, 1, 1, 1, 0, 0, 0, 0, 0, 0, 0, 0, 0];
-    run(rt, &longer, MOST, 1)
+    run(rt, &SMALLEST, MOST, 1)?;
+    run(rt, &SMALLEST, MOST, 0)?;
+    run(rt, &SMALLEST, 1, 1)?;
+    run(rt, &SMALLEST[..11], MOST, 1)?;
+    run(rt, &SMALLEST[..0], MOST, 1)?;
+    // the failed store is local store 0, where the thread starts, and that is accepted; five threads; a byte more
+    run(rt, &[1, 1, 1, 1, 0, 1, 0, 0, 0, 0, 0, 0], MOST, 1)?;
+    run(rt, &[1, 5, 1, 1, 0, 0, 0, 0, 0, 0, 0, 0], MOST, 1)?;
+    run(rt, &[1, 1, 1, 1, 0, 0, 0, 0, 0, 0, 0, 0, 0], MOST, 1)
 }
 
 // W is 9,600, and there are 57 facts.
@@ -124,45 +105,28 @@ fn returning(rt: &impl Print) -> io::Result<()> {
 
 // ---- the bytes that a check leaves alone
 
-// How many bytes of a memory from `from` on are no longer what they were before the check.
-fn changed(mem: &[u8; MOST], from: usize) -> usize {
-    let mut n = 0;
-    let mut i = from;
-    while i < MOST {
-        if mem[i] != FILL {
-            n += 1;
-        }
-        i += 1;
-    }
-    n
+// How many bytes are no longer what they were before the check.
+fn changed(bytes: &[u8]) -> usize {
+    bytes.iter().filter(|&&byte| byte != FILL).count()
 }
 
 // Checks a table in the first bytes of a larger memory, and prints besides how many bytes of that are changed from `from` on.
-fn watch(
-    rt: &impl Print,
-    table: &[u8],
-    bytes: usize,
-    budget: usize,
-    from: usize,
-) -> io::Result<()> {
+fn watch(rt: &impl Print, table: &[u8], bytes: usize, budget: usize, from: usize) -> io::Result<()>
+    requires { (bytes ≤ MOST) × (from ≤ MOST) }
+{
     let mut mem = [FILL; MOST];
-    check_in(rt, table, &mut mem, bytes, budget)?;
-    println!(rt; "changed {}", changed(&mem, from))
-}
-
-fn watch_recursion(rt: &impl Print, bytes: usize, budget: usize, from: usize) -> io::Result<()> {
-    watch(rt, &RECURSION, bytes, budget, from)
+    check_in(rt, table, &mut mem[..bytes], budget)?;
+    println!(rt; "changed {}", changed(&mem[from..]))
 }
 
 // Where the check is done or there are more facts than the budget, the first W bytes change, from 0xAA to 0 or 1, and those from W on do not;
 // where the memory is short or the table is refused, none does.
 fn left_alone(rt: &impl Print) -> io::Result<()> {
-    watch_recursion(rt, MOST, 5, 0)?;
-    watch_recursion(rt, MOST, 5, 36)?;
-    watch_recursion(rt, MOST, 4, 36)?;
-    watch_recursion(rt, 35, 5, 0)?;
-    let table = RECURSION;
-    watch(rt, &table[..28], MOST, 5, 0)?;
+    watch(rt, &RECURSION, MOST, 5, 0)?;
+    watch(rt, &RECURSION, MOST, 5, 36)?;
+    watch(rt, &RECURSION, MOST, 4, 36)?;
+    watch(rt, &RECURSION, 35, 5, 0)?;
+    watch(rt, &RECURSION[..28], MOST, 5, 0)?;
     let mutex = training::mutex_file();
     watch(rt, &mutex, MOST, 80, 1600)?;
     watch(rt, &mutex, MOST, 79, 1600)
@@ -172,43 +136,20 @@ fn left_alone(rt: &impl Print) -> io::Result<()> {
 
 // How many marks there are in a part of a memory.
 fn marks(part: &[u8]) -> usize {
-    let mut n = 0;
-    let mut i = 0;
-    while i < part.len() {
-        if part[i] == 1 {
-            n += 1;
-        }
-        i += 1;
-    }
-    n
+    part.iter().filter(|&&byte| byte == 1).count()
 }
 
-// How many there are before a position, and from it on.
-fn marks_before(mem: &[u8], p: usize) -> usize {
-    if p <= mem.len() {
-        return marks(&mem[..p]);
-    }
-    0
-}
-
-fn marks_from(mem: &[u8], p: usize) -> usize {
-    if p <= mem.len() {
-        return marks(&mem[p..]);
-    }
-    0
-}
-
-fn tell_marks(rt: &impl Print, letter: char, n: usize) -> io::Result<()> {
-    println!(rt; "{letter} {n}")
+// How many there are before position 192, and from it on.
+fn tell_marks(rt: &impl Print, mem: &[u8; MOST]) -> io::Result<()> {
+    println!(rt; "G {}", marks(&mem[..192]))?;
+    println!(rt; "P {}", marks(&mem[192..]))
 }
 
 // Of the training table's facts, the G facts stand at the first 3 * 8 * 8 positions, and the P facts at the others.
 fn kinds(rt: &impl Print) -> io::Result<()> {
     let mut mem = [FILL; MOST];
-    let table = training::file();
-    check_in(rt, &table, &mut mem, MOST, 57)?;
-    tell_marks(rt, 'G', marks_before(&mem, 192))?;
-    tell_marks(rt, 'P', marks_from(&mem, 192))
+    check_in(rt, &training::file(), &mut mem, 57)?;
+    tell_marks(rt, &mem)
 }
 
 // ---- the limits of the sizes
@@ -216,28 +157,54 @@ fn kinds(rt: &impl Print) -> io::Result<()> {
 // A table of each size at its limit, the other sizes as small as they may be, and the same with one more.
 fn limits(rt: &impl Print) -> io::Result<()> {
     // threads: W is 8; each is at its start, and all are at the failed store
-    let threads: [u8; 15] = [1, 4, 1, 1, 0, 1, 0, 0, 0, 0, 0, 0, 0, 0, 0];
-    run(rt, &threads, 8, 4)?;
-    let threads_5: [u8; 15] = [1, 5, 1, 1, 0, 1, 0, 0, 0, 0, 0, 0, 0, 0, 0];
-    run(rt, &threads_5, 8, 4)?;
+    run(rt, &[1, 4, 1, 1, 0, 1, 0, 0, 0, 0, 0, 0, 0, 0, 0], 8, 4)?;
+    run(rt, &[1, 5, 1, 1, 0, 1, 0, 0, 0, 0, 0, 0, 0, 0, 0], 8, 4)?;
     // shared stores: W is 512; a step from the last to the first
-    let shared: [u8; 17] = [1, 1, 16, 1, 0, 0, 15, 0, 1, 0, 15, 0, 0, 0, 0, 0, 0];
-    run(rt, &shared, 512, 3)?;
-    let shared_17: [u8; 17] = [1, 1, 17, 1, 0, 0, 15, 0, 1, 0, 15, 0, 0, 0, 0, 0, 0];
-    run(rt, &shared_17, 512, 3)?;
+    run(
+        rt,
+        &[1, 1, 16, 1, 0, 0, 15, 0, 1, 0, 15, 0, 0, 0, 0, 0, 0],
+        512,
+        3,
+    )?;
+    run(
+        rt,
+        &[1, 1, 17, 1, 0, 0, 15, 0, 1, 0, 15, 0, 0, 0, 0, 0, 0],
+        512,
+        3,
+    )?;
     // local stores: W is 257; a step from the last to the first
-    let local: [u8; 17] = [1, 1, 1, 16, 0, 0, 0, 15, 1, 0, 0, 15, 0, 0, 0, 0, 0];
-    run(rt, &local, 257, 3)?;
-    let local_17: [u8; 17] = [1, 1, 1, 17, 0, 0, 0, 15, 1, 0, 0, 15, 0, 0, 0, 0, 0];
-    run(rt, &local_17, 257, 3)?;
+    run(
+        rt,
+        &[1, 1, 1, 16, 0, 0, 0, 15, 1, 0, 0, 15, 0, 0, 0, 0, 0],
+        257,
+        3,
+    )?;
+    run(
+        rt,
+        &[1, 1, 1, 17, 0, 0, 0, 15, 1, 0, 0, 15, 0, 0, 0, 0, 0],
+        257,
+        3,
+    )?;
     // frames: W is 10; the last is pushed
-    let frames: [u8; 17] = [1, 1, 1, 1, 8, 0, 0, 0, 0, 1, 0, 0, 0, 0, 7, 0, 0];
-    run(rt, &frames, 10, 2)?;
-    let frames_9: [u8; 17] = [1, 1, 1, 1, 9, 0, 0, 0, 0, 1, 0, 0, 0, 0, 7, 0, 0];
-    run(rt, &frames_9, 10, 2)?;
+    run(
+        rt,
+        &[1, 1, 1, 1, 8, 0, 0, 0, 0, 1, 0, 0, 0, 0, 7, 0, 0],
+        10,
+        2,
+    )?;
+    run(
+        rt,
+        &[1, 1, 1, 1, 9, 0, 0, 0, 0, 1, 0, 0, 0, 0, 7, 0, 0],
+        10,
+        2,
+    )?;
     // all four: W is 2,360,320
-    let all: [u8; 15] = [1, 4, 16, 16, 8, 0, 0, 0, 0, 0, 0, 0, 0, 0, 0];
-    run(rt, &all, MOST, 65536)
+    run(
+        rt,
+        &[1, 4, 16, 16, 8, 0, 0, 0, 0, 0, 0, 0, 0, 0, 0],
+        MOST,
+        65536,
+    )
 }
 
 // ---- as much as the bench has
@@ -248,63 +215,52 @@ const BENCH: usize = 65536;
 // The bytes of that table.
 type Full = [u8; 6097];
 
-// Puts a byte at `at`, where there is room, and gives the place past it.
-fn put(file: &mut Full, at: usize, byte: u8) -> usize {
-    if at < 6097 {
-        file[at] = byte;
-        return at + 1;
-    }
-    at
-}
-
-fn put_row(file: &mut Full, at: usize, a: u32, b: u32, c: u32, d: u32, e: u32) -> usize {
-    let p = put(file, at, (a % 256) as u8);
-    let q = put(file, p, (b % 256) as u8);
-    let r = put(file, q, (c % 256) as u8);
-    let s = put(file, r, (d % 256) as u8);
-    put(file, s, (e % 256) as u8)
-}
-
 // Each thread has a step row from each shared store to each: 1,024 rows. Those to the first six lead from local store 0 to 1, to the next six from 1 to 2,
 // and to the last four from 2 to 0.
-fn put_steps(file: &mut Full, at: usize) -> usize {
-    let low = put(file, at, 0x80);
-    let mut p = put(file, low, 0x08);
-    for k in 0..1024u32 {
-        let to = k % 16;
-        let local = to / 6;
-        p = put_row(file, p, k / 256, k / 16 % 16, local, to, (local + 1) % 3);
-    }
-    p
+fn step_row(k: usize) -> [u8; 5]
+    requires { k < 1024 }
+{
+    let to = k % 16;
+    let local = to / 6;
+    [
+        (k / 256) as u8,
+        (k / 16 % 16) as u8,
+        local as u8,
+        to as u8,
+        ((local + 1) % 3) as u8,
+    ]
 }
 
 // Each thread calls from each place, 192 rows, and has each of the six frames in one of them.
-fn put_pushes(file: &mut Full, at: usize) -> usize {
-    let low = put(file, at, 0xC0);
-    let mut p = put(file, low, 0x01);
-    for k in 0..192u32 {
-        let local = k % 3;
-        let shared = k / 3 % 16;
-        p = put_row(
-            file,
-            p,
-            k / 48,
-            shared,
-            local,
-            local,
-            local * 2 + shared % 2,
-        );
-    }
-    p
+fn push_row(k: usize) -> [u8; 5]
+    requires { k < 192 }
+{
+    let local = k % 3;
+    let shared = k / 3 % 16;
+    [
+        (k / 48) as u8,
+        shared as u8,
+        local as u8,
+        local as u8,
+        (local * 2 + shared % 2) as u8,
+    ]
 }
 
 // Four threads, 16 shared stores, 3 local stores, 6 frames; the rest of the header is 0, and there are no pop rows and no error rows. W is
 // 4 * 256 * (1 + 9 * 7), and every fact holds.
 fn full() -> Full {
     let mut file = [0u8; 6097];
-    put_row(&mut file, 0, 1, 4, 16, 3, 6);
-    let steps = put_steps(&mut file, 11);
-    put_pushes(&mut file, steps);
+    file[..5].copy_from_slice(&[1, 4, 16, 3, 6]);
+    file[11..13].copy_from_slice(&[0x80, 0x08]);
+    for k in 0..1024 {
+        let at = 13 + 5 * k;
+        file[at..at + 5].copy_from_slice(&step_row(k));
+    }
+    file[5133..5135].copy_from_slice(&[0xC0, 0x01]);
+    for k in 0..192 {
+        let at = 5135 + 5 * k;
+        file[at..at + 5].copy_from_slice(&push_row(k));
+    }
     file
 }
 
@@ -312,9 +268,9 @@ fn full() -> Full {
 fn bench(rt: &impl Print) -> io::Result<()> {
     let table = full();
     let mut mem = [0u8; BENCH];
-    check_in(rt, &table, &mut mem, BENCH, BENCH)?;
-    check_in(rt, &table, &mut mem, BENCH, BENCH - 1)?;
-    check_in(rt, &table, &mut mem, BENCH - 1, BENCH)
+    check_in(rt, &table, &mut mem, BENCH)?;
+    check_in(rt, &table, &mut mem, BENCH - 1)?;
+    check_in(rt, &table, &mut mem[..BENCH - 1], BENCH)
 }
 
 fn main(rt: HostRuntime) -> io::Result<()> {

@@ -1,37 +1,26 @@
 // Runs the reader and the writer of numbers on vectors of document 01, a line for each.
 #![tactic(auto)]
 
-use numbers::reading::Read;
+use numbers::reading::{Part, number};
+use numbers::refusals::{Refusal, Told};
+use numbers::writing::put_number;
 use std::io;
 
-// A byte in hexadecimal, and a blank.
-fn byte(rt: &impl Print, b: u8) -> io::Result<()> {
-    print!(rt; "{b:02x} ")
-}
-
+// Bytes in hexadecimal, with a blank after each.
 fn bytes(rt: &impl Print, src: &[u8]) -> io::Result<()> {
     for b in src {
-        byte(rt, *b)?;
+        print!(rt; "{b:02x} ")?;
     }
     Ok(())
 }
 
-// A word and a number.
-fn say(rt: &impl Print, word: &str, n: u64) -> io::Result<()> {
-    print!(rt; "{word}{n}")
-}
-
 // What is read: a number with the place past it, or the refusal's number and value.
-fn tell(rt: &impl Print, read: Read) -> io::Result<()> {
+fn tell(rt: &impl Print, read: Result<Part<u32>, Refusal>) -> io::Result<()> {
     match read {
-        Read::Value { value, next } => {
-            say(rt, ": number ", value as u64)?;
-            say(rt, " next ", next as u64)
-        }
-        Read::Refused { refusal } => {
-            let told = numbers::refusals::tell(refusal);
-            say(rt, ": refused ", told.number as u64)?;
-            say(rt, " ", told.value as u64)
+        Ok(Part { value, next }) => print!(rt; ": number {value} next {next}"),
+        Err(refusal) => {
+            let Told { number, value } = Told::from(refusal);
+            print!(rt; ": refused {number} {value}")
         }
     }
 }
@@ -39,28 +28,15 @@ fn tell(rt: &impl Print, read: Read) -> io::Result<()> {
 // The bytes, and what is read of them at `at`.
 fn read(rt: &impl Print, src: &[u8], at: usize) -> io::Result<()> {
     bytes(rt, src)?;
-    say(rt, "@", at as u64)?;
-    tell(rt, numbers::reading::number(src, at))?;
+    print!(rt; "@{at}")?;
+    tell(rt, number(src, at))?;
     println!(rt)
 }
 
-// A byte as a number of bytes.
-fn wide(byte: u8) -> usize {
-    byte as usize
-}
-
-// Bytes of a list, and what is read of them at their start. Before them stands their number.
-fn read_all(rt: &impl Print, list: &[u8]) -> io::Result<()> {
-    let mut at = 0;
-    while at < list.len() {
-        let start = at + 1;
-        let size = wide(list[at]);
-        if list.len() - start < size {
-            break;
-        }
-        let end = start + size;
-        read(rt, &list[start..end], 0)?;
-        at = end;
+// What is read of each list of bytes at its start.
+fn read_all(rt: &impl Print, lists: &[&[u8]]) -> io::Result<()> {
+    for list in lists {
+        read(rt, list, 0)?;
     }
     Ok(())
 }
@@ -68,11 +44,8 @@ fn read_all(rt: &impl Print, list: &[u8]) -> io::Result<()> {
 // Writes a value at `at` into six bytes EE, and reads it back.
 fn write(rt: &impl Print, value: u32, at: usize) -> io::Result<()> {
     let mut dst = [0xEEu8; 6];
-    let next = numbers::writing::put_number(&mut dst, at, value);
-    say(rt, "write ", value as u64)?;
-    say(rt, " @", at as u64)?;
-    say(rt, " next ", next as u64)?;
-    print!(rt; ": ")?;
+    let next = put_number(&mut dst, at, value);
+    print!(rt; "write {value} @{at} next {next}: ")?;
     read(rt, &dst, at)
 }
 
@@ -80,15 +53,17 @@ fn write(rt: &impl Print, value: u32, at: usize) -> io::Result<()> {
 fn borders(rt: &impl Print) -> io::Result<()> {
     read_all(
         rt,
-        b"\x01\x00\
-        \x01\x7F\
-        \x02\x80\x01\
-        \x02\xAC\x02\
-        \x02\xFF\x7F\
-        \x03\x80\x80\x01\
-        \x03\xFF\xFF\x7F\
-        \x04\x80\x80\x80\x01\
-        \x04\xFF\xFF\xFF\x7F",
+        &[
+            b"\x00",
+            b"\x7F",
+            b"\x80\x01",
+            b"\xAC\x02",
+            b"\xFF\x7F",
+            b"\x80\x80\x01",
+            b"\xFF\xFF\x7F",
+            b"\x80\x80\x80\x01",
+            b"\xFF\xFF\xFF\x7F",
+        ],
     )
 }
 
@@ -96,23 +71,20 @@ fn borders(rt: &impl Print) -> io::Result<()> {
 fn long(rt: &impl Print) -> io::Result<()> {
     read_all(
         rt,
-        b"\x02\x80\x00\
-        \x03\x80\x80\x00\
-        \x04\xFF\xFF\xFF\x00\
-        \x04\xFF\xFF\xFF\xFF\
-        \x05\xFF\xFF\xFF\xFF\x01\
-        \x06\xFF\xFF\xFF\x80\x00\x00",
+        &[
+            b"\x80\x00",
+            b"\x80\x80\x00",
+            b"\xFF\xFF\xFF\x00",
+            b"\xFF\xFF\xFF\xFF",
+            b"\xFF\xFF\xFF\xFF\x01",
+            b"\xFF\xFF\xFF\x80\x00\x00",
+        ],
     )
 }
 
 // Bytes that end too soon.
 fn cuts(rt: &impl Print) -> io::Result<()> {
-    read_all(
-        rt,
-        b"\x00\
-        \x01\x80\
-        \x03\xFF\xFF\xFF",
-    )
+    read_all(rt, &[b"", b"\x80", b"\xFF\xFF\xFF"])
 }
 
 // Places inside the bytes, at their end and beyond it.
@@ -126,23 +98,18 @@ fn places(rt: &impl Print) -> io::Result<()> {
     read(rt, b"\x01\x02", 9)
 }
 
-// Numbers that are written, and values that are not: no room, or no number.
+// Numbers that are written at 1, the largest at places with no room for it, small ones at the end, and what is no number.
 fn writes(rt: &impl Print) -> io::Result<()> {
-    write(rt, 0, 1)?;
-    write(rt, 127, 1)?;
-    write(rt, 128, 1)?;
-    write(rt, 300, 1)?;
-    write(rt, 16383, 1)?;
-    write(rt, 16384, 1)?;
-    write(rt, 2097151, 1)?;
-    write(rt, 2097152, 1)?;
-    write(rt, 268435455, 1)?;
-    write(rt, 268435455, 2)?;
-    write(rt, 268435455, 3)?;
+    for value in [0, 127, 128, 300, 16383, 16384, 2097151, 2097152] {
+        write(rt, value, 1)?;
+    }
+    for at in [1, 2, 3] {
+        write(rt, 268435455, at)?;
+    }
     write(rt, 300, 5)?;
-    write(rt, 0, 5)?;
-    write(rt, 0, 6)?;
-    write(rt, 0, 9)?;
+    for at in [5, 6, 9] {
+        write(rt, 0, at)?;
+    }
     write(rt, 268435456, 1)
 }
 
