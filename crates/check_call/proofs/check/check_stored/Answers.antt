@@ -1,21 +1,9 @@
 -- `check_call::check::check_stored` meets its contract: the plan and the lent rows are the table's, so the engine and the verdict answer for it.
-use native.Mathlib.Omega.{arith}
 use Rattle.check_call.proofs.Outcomes.{answer_short, answer_over, answer_done}
 use Rattle.check_call.proofs.check.check_stored.Goals as goal
 
 pub returns-then-mem-w : goal.returns-then-mem-w
 returns-then-mem-w c = λ T st. answer_short (c.w-w.ensures.of_table T st) c.if-mem-w.true
-
-pub run_in-requires : goal.run_in-requires
-run_in-requires c = let (T, st) = c.requires in ((T, st, c.w-w.ensures.of_table T st), c.if-mem-w.false)
-
-pub facts-requires : goal.facts-requires
-facts-requires c =
-    let (T, st) = c.requires in
-    (T, st, omega (arith, c.w-w.ensures.of_table T st, c.if-mem-w.false, c.run_in.auto.mem))
-
-pub judge-verdict-requires : goal.judge-verdict-requires
-judge-verdict-requires c = let (T, st) = c.requires in (T, c.errors.ensures.of_table T _ st (c.facts.ensures.plan T st))
 
 pub returns-in_default : goal.returns-in_default
 returns-in_default c =

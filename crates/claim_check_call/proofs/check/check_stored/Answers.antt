@@ -18,12 +18,6 @@ read_claim-requires c =
     let (T, st) = c.requires in
     omega (arith, c.w-w.ensures.of_table T st, W_max T st.sound)
 
-pub check_facts-requires : goal.check_facts-requires
-check_facts-requires c =
-    let (i, e) = claimed_read _ _ _ (sym (mapped_ok _ refl c.in_ok-count.ensures.cases) ∙ c.read_claim.ensures) in
-    let (T, st) = c.requires in
-    (T, i.positions, read_lent (c.w-w.ensures.of_table T st) i st e, c.if-mem-w.false)
-
 pub returns : goal.returns
 returns c =
     let (i, e) = claimed_read _ _ _ (sym (mapped_ok _ refl c.in_ok-count.ensures.cases) ∙ c.read_claim.ensures) in

@@ -2,9 +2,6 @@
 use Rattle.findings.proofs.FoundLaws.{nothing_found, row_allows}
 use Rattle.findings.proofs.find.find_error.Goals as goal
 
-pub judge-requires : goal.judge-requires
-judge-requires c = let (T, st, _) = c.requires in (T, c.errors.ensures.of_table T _ st (c.facts.ensures.plan T st))
-
 pub returns-in-Safe : goal.returns-in-Safe
 returns-in-Safe c =
     λ T st closed. nothing_found closed (rw (← c.facts.ensures.same) (c.judge.ensures T (c.errors.ensures.of_table T _ st (c.facts.ensures.plan T st)))) c.in-Safe.is
