@@ -33,12 +33,7 @@ impl Column {
     pub fn per_thread(self, n: u8) -> [Column; 4]
         ensures { result ≡ per_thread n self [] }
     {
-        [
-            self.of_thread(n, 0),
-            self.of_thread(n, 1),
-            self.of_thread(n, 2),
-            self.of_thread(n, 3),
-        ]
+        [0, 1, 2, 3].map(|t| self.of_thread(n, t))
     }
 
     // The range of a column's numbers, the first and the one past the last; none where the column is not there.

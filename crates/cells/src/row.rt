@@ -28,6 +28,7 @@ fn read_cell(r: &mut Reader, column: Column) -> Result<u8, Refusal>
             let at = r.place();
             let read = r.next();
             let number = ranged(at, read, low, end)?;
+            // A cast: no `From` leads from u32 to u8, and the proof shows that it fits.
             Ok(number.value as u8)
         }
         None => Ok(0),

@@ -78,6 +78,7 @@ impl From<CheckRefusal> for Reply {
 }
 
 // The number, the origin and the value of an answer.
+// A function as its sisters `claim_reply_of` and `write_reply_of` are, which cannot be `From`. One for each call: the answers differ in type.
 pub fn reply_of(answer: Result<Done, CheckRefusal>) -> Reply
     ensures { result ≡ reply_of answer }
 {

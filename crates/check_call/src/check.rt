@@ -13,6 +13,7 @@ use verdict::search::judge;
 
 // The least relations of a table in the first w bytes of a memory, where w is the table's W; and how many facts there are, if no more than the
 // budget.
+// w stands beside the memory, which is of any length: what is past w is promised to stay.
 fn run_in(table: &StoredTable, w: usize, mem: &mut [u8], budget: usize) -> Option<usize>
     requires { ((T : Table) × StoredAs T table.now × (w ≡ W T)) × (w ≤ length mem.old) }
     ensures ran { (T : Table) → StoredAs T table.now → Ran T budget result (take w mem.new) }
@@ -47,6 +48,7 @@ fn check_stored(table: &StoredTable, mem: &mut [u8], budget: usize) -> Result<Do
 }
 
 // Checks a table. Its rows stand in the check's own memory.
+// `check_claim` of claim_check_call begins as this does; its refusals are of another enum.
 pub fn check(table: &[u8], mem: &mut [u8], budget: usize) -> Result<Done, CheckRefusal>
     ensures { Checked table.now budget mem.old result mem.new }
 {

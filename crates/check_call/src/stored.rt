@@ -13,8 +13,8 @@ use reaching::reach::Facts;
 use reaching::row_cells::ErrorRows;
 use store::rows::{RowCounts, RowLists};
 
-// The header, how many rows each list has, and the rows as the table reader leaves them. Which table it is stands in each clause: a ghost field would be
-// one plain fact, that there is some table, and would hide which.
+// The header, how many rows each list has, and the rows as the table reader leaves them. The `ensures` speak of which table it is. Nine `requires`,
+// here and in `check`, findings and claim_check_call, say that there is one, which a ghost field could say: that was not tried.
 #[derive(Clone, Copy)]
 pub struct StoredTable<'a> {
     pub header: Header,

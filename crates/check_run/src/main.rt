@@ -106,6 +106,7 @@ fn returning(rt: &impl Print) -> io::Result<()> {
 // ---- the bytes that a check leaves alone
 
 // How many bytes are no longer what they were before the check.
+// `claim_calls_run` counts so too: the programs share no crate for it.
 fn changed(bytes: &[u8]) -> usize {
     bytes.iter().filter(|&&byte| byte != FILL).count()
 }
@@ -135,6 +136,7 @@ fn left_alone(rt: &impl Print) -> io::Result<()> {
 // ---- the kinds of facts
 
 // How many marks there are in a part of a memory.
+// `claim_calls_run` has `count` for it: the programs share no crate for that.
 fn marks(part: &[u8]) -> usize {
     part.iter().filter(|&&byte| byte == 1).count()
 }
@@ -220,6 +222,7 @@ type Full = [u8; 6097];
 fn step_row(k: usize) -> [u8; 5]
     requires { k < 1024 }
 {
+    // Casts, here and below: no `From` leads from usize to u8, and the proof shows that they fit.
     let to = k % 16;
     let local = to / 6;
     [
@@ -252,6 +255,7 @@ fn full() -> Full {
     let mut file = [0u8; 6097];
     file[..5].copy_from_slice(&[1, 4, 16, 3, 6]);
     file[11..13].copy_from_slice(&[0x80, 0x08]);
+    // Two loops: one for both would take the row as a closure with its own `requires`. The range says how far k goes, which the rows ask for.
     for k in 0..1024 {
         let at = 13 + 5 * k;
         file[at..at + 5].copy_from_slice(&step_row(k));

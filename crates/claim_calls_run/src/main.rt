@@ -25,17 +25,20 @@ const WITH_GUARDS: usize = MOST + 2 * GUARD;
 const FILL: u8 = 0xAA;
 
 // How many bytes are this one.
+// As `marks` in `check_run`: the programs share no crate for it.
 fn count(bytes: &[u8], byte: u8) -> usize {
     bytes.iter().filter(|&&b| b == byte).count()
 }
 
 // How many bytes are no longer what they were before the call.
+// As in `check_run`: the programs share no crate for it.
 fn changed(bytes: &[u8]) -> usize {
     bytes.iter().filter(|&&b| b != FILL).count()
 }
 
 // ---- standard output
 
+// Prints bytes, as in `files_run`: the programs share no crate for it.
 fn text(rt: &impl Print, bytes: &[u8]) -> io::Result<()> {
     rt.write_all(bytes)
 }
@@ -88,6 +91,7 @@ fn show(rt: &impl Print, claim: &[u8]) -> io::Result<()> {
 // ---- the claim check
 
 // Checks a claim for a table whose facts take w bytes, in a memory of `bytes` bytes, and prints what comes back.
+// w stands beside the table, here and below, and is not read from it: one table that is tested is refused, and has no W.
 fn check(rt: &impl Print, table: &[u8], w: usize, claim: &[u8], bytes: usize) -> io::Result<()>
     requires { (w ≤ MOST) × (bytes ≤ MOST) }
 {
@@ -110,6 +114,7 @@ fn check_all(rt: &impl Print, table: &[u8], w: usize, claims: &[&[u8]]) -> io::R
 // ---- claim writing
 
 // How many bytes of a space are changed before and past those of a claim. The claim is shown and checked.
+// `bytes` is 0 where no claim is written: the whole space is then looked at for changes.
 fn check_written(
     rt: &impl Print,
     table: &[u8],

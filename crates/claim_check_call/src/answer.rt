@@ -35,6 +35,7 @@ impl From<ClaimRefusal> for Reply {
 }
 
 // The number, the origin and the value of an answer, which is how many facts are claimed where the claim is accepted.
+// A function and no `From`: neither `Reply` nor `Result` is a type of this crate.
 pub fn claim_reply_of(answer: Result<usize, ClaimRefusal>) -> Reply
     ensures { result ≡ claim_reply_of answer }
 {

@@ -15,6 +15,7 @@ use findings::find::find;
 use store::marks::clear_first;
 
 // Marks the claimed facts in the first w bytes of a memory.
+// w is a number, here and below: the `Claim` of claim_reader is private. The memory is of any length, and what is past w is promised to stay.
 fn mark_in(claim: &[u8], w: usize, mem: &mut [u8])
     requires { IsClaim w claim.now × (w ≤ most_facts) × (w ≤ length mem.old) }
     ensures { MarkedFirst w (positions_of (claim_at w claim.now)) mem.old mem.new }
@@ -57,6 +58,7 @@ fn check_stored(table: &StoredTable, claim: &[u8], mem: &mut [u8]) -> Result<usi
 }
 
 // Checks a claim against a table. The rows of the table stand in the check's own memory.
+// It begins as `check` of check_call does; the refusals are of another enum.
 pub fn check_claim(table: &[u8], claim: &[u8], mem: &mut [u8]) -> Result<usize, ClaimRefusal>
     ensures { ClaimChecked table.now claim.now mem.old result mem.new }
 {

@@ -101,18 +101,19 @@ impl<'a> Claim<'a> {
         let mut walk = Walk::new(self, count.next);
         for _i in 0..count.value {
             let position = walk.next().unwrap();
-            // A cast: no `From` leads from u32 to usize.
+            // A cast, here and below: no `From` leads from u32 to usize.
             put_mark(mem, position as usize);
         }
     }
 }
 
 // Reads a claim, for a room of w facts: how many positions it has, or the refusal.
+// w is a number, here and below, and no `Claim`: that is private, and who calls has the W of the table.
 pub fn read_claim(src: &[u8], w: usize) -> Result<usize, Refusal>
     requires { w ≤ most_facts }
     ensures { result ≡ claimed_of (claim_at w src.now) }
 {
-    // A cast: no `From` leads from usize to u32, and the proof shows that it fits.
+    // A cast, here and below: no `From` leads from usize to u32, and the proof shows that it fits.
     let claim = Claim { src, w: w as u32 };
     let count = claim.count()?;
     let end = claim.positions(count)?;
@@ -122,6 +123,7 @@ pub fn read_claim(src: &[u8], w: usize) -> Result<usize, Refusal>
 
 // Marks the positions of a claim that reads well, in a memory of w bytes: afterwards a byte is 1 if its position is claimed, else 0, whatever it
 // was before.
+// w stands beside the memory, whose length it is: it is the w of `read_claim`, of which `IsClaim` speaks.
 pub fn mark_claim(src: &[u8], w: usize, mem: &mut [u8])
     requires { IsClaim w src.now × (w ≤ most_facts) × (room mem.old ≡ w) }
     ensures { Marks w (positions_of (claim_at w src.now)) mem.new }

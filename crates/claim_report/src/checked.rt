@@ -12,6 +12,7 @@ pub fn checked_line(answer: Result<usize, ClaimRefusal>) -> Line
     ensures { result ≡ line_of_claim_reply (claim_reply_of answer) }
 {
     let reply = claim_reply_of(answer);
+    // A cast, here and below: no `From` leads from u32 to usize.
     let origin = reply.origin as usize;
     match reply.number {
         0 => accepted_line(reply.value),

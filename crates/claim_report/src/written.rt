@@ -9,6 +9,7 @@ use report::answers::{line_of_reply, line_of_verdict};
 use text::line::Line;
 
 // The first line of an answer: the number of facts, or the refusal.
+// As in `report`, for another answer, and so is `verdict_line`: what they share is `line_of_reply` and `line_of_verdict`.
 pub fn first_line(answer: Result<Written, WriteRefusal>) -> Line
     ensures { result ≡ line_of_reply (write_reply_of answer) }
 {

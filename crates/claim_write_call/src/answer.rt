@@ -6,7 +6,8 @@ ghost use Rattle.claim_write_call.specs.declared.answer.WriteRefusal.TheVariants
 use check_call::answer::{CheckRefusal, Reply};
 use verdict::search::Verdict;
 
-// A claim that is written: how many facts there are, the verdict, and how many bytes the claim takes.
+// A claim that is written: how many facts there are, the verdict, and how many bytes the claim takes. The first two are those of `Done`, and stand
+// here again: `Written count verdict bytes` of specs/ names the three side by side.
 #[derive(Clone, Copy)]
 pub struct Written {
     pub count: usize,
@@ -43,6 +44,7 @@ impl From<WriteRefusal> for Reply {
 }
 
 // The number, the origin and the value of an answer.
+// A function and no `From`: neither `Reply` nor `Result` is a type of this crate.
 pub fn write_reply_of(answer: Result<Written, WriteRefusal>) -> Reply
     ensures { result ≡ write_reply_of answer }
 {

@@ -15,6 +15,7 @@ use store::rows::{RowLists, cell};
 use uses::lines::Pass;
 
 // Where the start fact of thread t stands.
+// g and `locals` are two parameters, here and below: `StartIn` and `StartOf` of specs/ speak of both.
 pub fn start_at(s: Plan, g: usize, locals: &[u8], t: usize) -> usize
     requires { StartIn s g locals.now × (t < s.n) }
     ensures { (result ≡ start_at s g locals.now t) × (result < s.w) }

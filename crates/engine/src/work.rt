@@ -15,6 +15,7 @@ use uses::lines::Pass;
 use uses::sweep::Sweep;
 
 // Takes turns until the work ends.
+// The rows stand beside the sweep, here and in the modules below: it is of `uses`, whose functions have no rows.
 fn take_turns(sweep: &mut Sweep, rows: &RowLists)
     requires { Given sweep.old.plan rows.now.counts rows.now.steps.now rows.now.pushes.now rows.now.pops.now }
     ensures kept { Kept sweep.old sweep.new }
@@ -23,11 +24,13 @@ fn take_turns(sweep: &mut Sweep, rows: &RowLists)
 {
     let s = sweep.plan;
     let n = rows.counts.steps;
+    // An array of fixed size with its number of rows: a list of n rows would be on the heap.
     let steps = step_rows(rows.steps, n);
     let mut next = Some(Turn {
         stretch: 0,
         before: sweep.pass.left,
     });
+    // A loop that goes on as the turns say; it counts nothing.
     while let Some(turn) = next {
         let had = sweep.pass.left;
         let (t, a) = thread_and_pair(s, turn.stretch);

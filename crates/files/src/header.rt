@@ -23,7 +23,8 @@ const MOST_FRAMES: u8 = 8;
 pub const MOST_FACTS: usize = 2360320;
 
 // What the header says. `failed` is 0 for no failed store and k + 1 for local store k; `start` is the initial shared store;
-// `firsts` has each thread's initial local store, and 0 for the threads that are not there.
+// `firsts` has each thread's initial local store, and 0 for the threads that are not there. The zeros are those of the row's absent columns:
+// `header_in` of specs/ has them too.
 // `failed` is the file's own number and no Option: `header_in` of specs/ promises that it is the `failed` of the table.
 #[derive(Clone, Copy, Debug, PartialEq, Eq)]
 pub struct Header {
@@ -97,6 +98,7 @@ fn local_columns(z: Sizes) -> [Column; 5]
 }
 
 // The sizes in the first four cells of a row.
+// A function: `From` would have to be for a type of this crate, and neither is.
 fn sizes_of(cells: [u8; 5]) -> Sizes
     ensures { result ≡ sizes_of cells }
 {

@@ -19,6 +19,7 @@ const MOST_POPS: u16 = 256;
 
 const MOST_ERRORS: u16 = 64;
 
+// A cast, here and below: a constant calls no `From`.
 pub const STEP_ROWS: usize = MOST_STEPS as usize;
 
 // The memory that the rows of each list take at most: five bytes a row.
@@ -39,7 +40,8 @@ pub struct Counts {
     pub errors: usize,
 }
 
-// The memory for the rows of a table, five bytes a row.
+// The memory for the rows of a table, five bytes a row. Four fields and no array: each list has its own limit, so its memory its own type. The counts
+// and the places of the lists have the same four fields.
 #[derive(Drop)]
 pub struct TableRows {
     pub steps: [u8; STEP_BYTES],

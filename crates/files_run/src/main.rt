@@ -15,6 +15,7 @@ use std::io::Read;
 
 // ---- standard output
 
+// Prints bytes, as in `claim_calls_run`: the programs share no crate for it.
 fn text(rt: &impl Print, bytes: &[u8]) -> io::Result<()> {
     rt.write_all(bytes)
 }

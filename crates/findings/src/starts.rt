@@ -13,6 +13,7 @@ use reaching::reach::Facts;
 use store::marks::has;
 
 // Whether thread t lacks its start fact.
+// g and `locals` are two parameters, here and below: `StartIn` and `StartOf` of engine speak of both.
 fn lacks_start(facts: &Facts, g: usize, locals: &[u8; 4], t: usize) -> bool
     requires { StartIn facts.now.plan g locals.now × (t < facts.now.plan.n) }
     ensures { Is (¬ Has facts.now.mem.now (start_at facts.now.plan g locals.now t)) result }

@@ -6,6 +6,7 @@ ghost use Rattle.inputs.specs.Names.{SameName};
 use std::io;
 
 // Whether two names are the same, byte by byte.
+// It stands for its contract, which docs/AUDIT.md names.
 pub fn same_name(a: &[u8], b: &[u8]) -> bool
     ensures { SameName a.now b.now result }
 {

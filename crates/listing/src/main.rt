@@ -69,6 +69,7 @@ impl Page {
 fn list(rt: &(impl Print + Say), table: &[u8], mem: &Memory) -> Result<(), Said> {
     let mut page = Page::new();
     let mut from = 0;
+    // A loop that goes on as the facts say; it counts nothing.
     while let Some(fact) = next_fact(table, mem, from) {
         page.put(rt, fact.line.as_bytes())?;
         from = fact.next;

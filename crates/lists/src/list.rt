@@ -47,7 +47,7 @@ fn find_rows(src: &[u8], at: usize, count: usize, columns: [Column; 5]) -> Resul
 }
 
 // How many rows the list of at most `most` rows at `at` has, and the place past it: the count stands first, then the rows.
-// `most` and `columns` are two parameters here and below, since the four functions are public and promise `list_at most columns`.
+// `most` and `columns` are two parameters here and below: who calls has both in one call, a constant and what a method gives. A struct is no plainer.
 pub fn find_at(
     src: &[u8],
     at: usize,
@@ -57,7 +57,7 @@ pub fn find_at(
     ensures { result ≡ list_of (list_at most columns src.now at) }
 {
     let number = field(src, at, 0, u32::from(most) + 1)?;
-    // A cast: no `From` leads from u32 to usize.
+    // A cast, here and below: no `From` leads from u32 to usize.
     let count = number.value as usize;
     let next = find_rows(src, number.next, count, columns)?;
     Ok(Part { value: count, next })
@@ -80,6 +80,7 @@ pub fn find_list(
 
 // The number at `at`, which was found and fits a byte, into dst at `to`. Gives the place past it. Such a number is its first byte, and has a second one,
 // which is 1, where the first is at least 128.
+// dst and `to` are two parameters, here and below: `CellKept` and `RowKept` of specs/ are of the memory and the place in it.
 fn keep_number(src: &[u8], at: usize, dst: &mut [u8], to: usize) -> usize
     requires { FoundByte (number_at src.now at) × (to < length dst.old) }
     ensures { CellKept (number_at src.now at) to dst.old dst.new result }
@@ -110,6 +111,7 @@ fn keep_row(src: &[u8], at: usize, columns: [Column; 5], dst: &mut [u8], base: u
     ensures { RowKept (row_at columns src.now at) base dst.old dst.new result }
 {
     let mut next = at;
+    // A cell is kept by its place, for the reason at `row_through` of cells: `RowKept` says what dst has.
     for (j, column) in columns.iter().enumerate() {
         next = keep_cell(src, next, *column, dst, base + j);
     }

@@ -19,7 +19,7 @@ pub enum Refusal {
     After { at: usize },
 }
 
-// Document 01's number of an answer, and its value.
+// Document 01's number of an answer, and its value. They are numbers and no enum: C and the printed lines tell them so.
 #[derive(Clone, Copy, Debug, PartialEq, Eq)]
 pub struct Told {
     pub number: u32,

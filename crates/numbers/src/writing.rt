@@ -24,6 +24,7 @@ fn put(dst: &mut [u8], at: usize, value: u32)
     ensures { dst.new ≡ sets dst.old at (bytes_of value) }
 {
     if 128 <= value {
+        // A cast, here and below: no `From` leads from u32 to u8, and the proof shows that it fits.
         dst[at] = (value % 128 + 128) as u8;
         put(dst, at + 1, value / 128);
     } else {

@@ -54,6 +54,7 @@ impl Plan {
     }
 
     // The plan of a table with these sizes.
+    // No `From`: it asks that the sizes are within the limits.
     pub fn of(sizes: Sizes) -> Plan
         requires { (0 < sizes.threads) × (sizes.threads ≤ most_threads) × (0 < sizes.shared) × (sizes.shared ≤ most_shared)
             × (0 < sizes.locals) × (sizes.locals ≤ most_locals) × (sizes.frames ≤ most_frames) }
@@ -92,6 +93,7 @@ impl Plan {
     }
 
     // Where the stretches of Q facts of t from pair a begin, one for each frame; the fact with frame f to pair c stands f * k + c further.
+    // Beside `p_from`: Q facts have a frame more, so the two differ in their numbers too.
     pub fn q_from(self, t: usize, a: usize) -> usize
         requires { (t < self.n) × (a < self.k) }
         ensures { (result ≡ q_from self t a) × (result + self.f * self.k ≤ self.w) }
@@ -108,6 +110,7 @@ impl Plan {
     }
 
     // Where the Q fact of t from pair a with frame f to pair c stands.
+    // Beside `p_position`, for the reason at `q_from`.
     pub fn q_position(self, t: usize, a: usize, f: usize, c: usize) -> usize
         requires { (t < self.n) × (a < self.k) × (f < self.f) × (c < self.k) }
         ensures { (result ≡ q_from self t a + f * self.k + c) × (result < self.w) }

@@ -48,6 +48,7 @@ impl<'a> ErrorRows<'a> {
     }
 
     // For row 0, the thread that is to be in the failed store at g; for a row of the file, thread 0 if the row fits g.
+    // Thread 0 says no more than that the row fits: `Aimed` of specs/ has it so, and `asked_cell` does not look at the thread of such a row.
     pub fn aim(&self, facts: &Facts, row: usize, g: usize) -> Option<usize>
         requires { (self.now.failed ≤ facts.now.plan.l) × (row ≤ self.now.n) × (g < facts.now.plan.g) }
         ensures { Aimed facts.now.plan self.now.failed self.now.rows.now facts.now.mem.now row g result }

@@ -23,11 +23,13 @@ pub fn line_of_reply(reply: Reply) -> Line
 {
     match reply.number {
         0 => facts_line(reply.value),
+        // A cast, here and below: no `From` leads from u32 to usize.
         number => refused_line(number as usize, reply.value),
     }
 }
 
 // The first line of an answer: the number of facts, or the refusal.
+// `claim_report` has this and `verdict_line` for another answer: what they share is `line_of_reply` and `line_of_verdict`.
 pub fn first_line(answer: Result<Done, CheckRefusal>) -> Line
     ensures { result ≡ line_of_reply (reply_of answer) }
 {

@@ -24,6 +24,7 @@ pub fn some(mem: &[u8], x: usize, n: usize) -> bool
 }
 
 // Whether one of the n places from x on has a mark where its partner, of the n from y on, has none. It has no branch, as above.
+// Two tests, `some` and `lacks`: one is over one stretch, the other over two.
 pub fn lacks(mem: &[u8], x: usize, y: usize, n: usize) -> bool
     requires { (x + n ≤ room mem.now) × (y + n ≤ room mem.now) }
     ensures { Is (LacksIn mem.now x y n) result }

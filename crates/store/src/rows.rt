@@ -15,7 +15,7 @@ pub struct Row {
     pub v: u8,
 }
 
-// How many rows of each kind there are.
+// How many rows of each kind there are. It is `Counts` of files without the error rows: no rule asks for them, and `RowsOf` of engine has three.
 #[derive(Clone, Copy)]
 pub struct RowCounts {
     pub steps: usize,
@@ -58,6 +58,7 @@ pub fn row_at(rows: &[u8], i: usize) -> Row
 }
 
 // The first n step rows as a list of structs, and rows of zeros after them.
+// They are an array of fixed size, beside n: a list of n rows would be on the heap.
 pub fn step_rows(steps: &[u8], n: usize) -> [Row; STEP_ROWS]
     requires { (n ≤ most_steps) × (n * 5 ≤ length steps.now) }
     ensures { Unpacked steps.now n result }
@@ -70,6 +71,7 @@ pub fn step_rows(steps: &[u8], n: usize) -> [Row; STEP_ROWS]
         v: 0,
     };
     let mut rows = [zeros; STEP_ROWS];
+    // A row is stored by its index, for the reason at `row_through` of cells: `Unpacked` says what the rows are.
     for i in 0..n {
         rows[i] = row_at(steps, i);
     }

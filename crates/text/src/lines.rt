@@ -1,4 +1,4 @@
-// The lines of the listing, and those of the programs on claims.
+// The lines of the listing, and those of the programs on claims. Each line has a function and a contract of its own; they share `Line::new`.
 ghost use Rattle.std.specs.Prelude.{◌≡◌, take};
 ghost use Rattle.text.specs.Listing.{facts_line, safe_line, possible_line, refused_line, bytes_line, accepted_line, claim_refused_line};
 

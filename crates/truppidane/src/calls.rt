@@ -1,4 +1,5 @@
-// The three calls as the library has them. `truppidane_c` exports them under the same names.
+// The three calls as the library has them. `truppidane_c` exports them under the same names. What each calls differs, so each has its
+// `ensures`.
 ghost use Rattle.truppidane.specs.Calls.{CheckTold, WriteTold, ClaimTold};
 
 use crate::told::{NUMBERS, check_numbers, claim_numbers, write_numbers};

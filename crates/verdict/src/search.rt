@@ -7,7 +7,8 @@ ghost use Rattle.verdict.specs.ErrorRows.{ErrorsOf, Found, Judged};
 use reaching::reach::Facts;
 use reaching::row_cells::ErrorRows;
 
-// A witness of an error: its row, its shared store, and the local stores of threads 0 to 3, with 0 for a thread that is not there.
+// A witness of an error: its row, its shared store, and the local stores of threads 0 to 3, with 0 for a thread that is not there. There are four
+// numbers since C is told four and memory is fixed; a plan's n says how many count.
 #[derive(Clone, Copy, PartialEq, Eq)]
 pub struct Witness {
     pub row: usize,
@@ -23,6 +24,7 @@ pub enum Verdict {
 }
 
 // The smallest list of local stores that a row allows at g, if it allows any there.
+// `facts` and `errors` are two parameters: the search for start facts has the facts without error rows.
 fn smallest(facts: &Facts, errors: &ErrorRows, row: usize, g: usize) -> Option<[usize; 4]>
     requires { ((T : Table) × ErrorsOf T facts.now.plan errors.now.failed errors.now.rows.now errors.now.n) × (row ≤ errors.now.n)
         × (g < facts.now.plan.g) }
@@ -32,6 +34,7 @@ fn smallest(facts: &Facts, errors: &ErrorRows, row: usize, g: usize) -> Option<[
     let plan = facts.plan;
     let u = errors.aim(facts, row, g)?;
     let mut locals = [0; 4];
+    // A store is put by its index, for the reason at `row_through` of cells: `Found` says what the stores are.
     for t in 0..plan.n {
         let cell = errors.cell_of(row, u, t);
         locals[t] = facts.least(t, g, cell)?;

@@ -1,4 +1,5 @@
-// A line: a word, numbers with a blank before each, and a line feed. A note: a line of one number with the rest of a sentence after it.
+// A line: a word, numbers with a blank before each, and a line feed. A note: a line of one number with the rest of a sentence after it. Each function
+// gives the length of what it writes: the memory is lent, so that no size is fixed, and it is `Line` of text that owns a line.
 ghost use Rattle.std.specs.Prelude.{◌+◌, ◌*◌, ◌≤◌, length};
 ghost use Rattle.words.specs.Text.{line, note, Written};
 ghost use Rattle.words.specs.Room.{field_room};

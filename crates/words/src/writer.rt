@@ -44,6 +44,7 @@ impl<'a> Writer<'a> {
         if more {
             self.decimal(v / 10);
         }
+        // A cast: no `From` leads from usize to u8, and the proof shows that it fits.
         self.byte(b'0' + (v % 10) as u8);
     }
 
