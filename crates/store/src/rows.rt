@@ -24,8 +24,8 @@ pub struct RowCounts {
 }
 
 // A table's rows, lent: how many there are of each kind, and their bytes. The numbers stand beside the slices: the lent memory is of fixed size and
-// longer than the rows, and `RowsOf` of engine and `Laid` of check_call speak of both. The rows stay bytes: only step rows are unpacked, once, since
-// rule 4 walks them for each fact.
+// longer than the rows, and `RowsOf` of engine and `Laid` of check_call speak of both; as a length over five it is no plainer. The rows stay bytes: only
+// step rows are unpacked, once, since rule 4 walks them for each fact.
 #[derive(Clone, Copy)]
 pub struct RowLists<'a> {
     pub counts: RowCounts,
