@@ -13,7 +13,7 @@ use verdict::search::judge;
 
 // The least relations of a table in the first w bytes of a memory, where w is the table's W; and how many facts there are, if no more than the
 // budget.
-// w stands beside the memory, which is of any length: what is past w is promised to stay.
+// w is `table.w()`, which the caller has just compared with the memory: it is handed on, and not worked out twice.
 fn run_in(table: &StoredTable, w: usize, mem: &mut [u8], budget: usize) -> Option<usize>
     requires { ((T : Table) × StoredAs T table.now × (w ≡ W T)) × (w ≤ length mem.old) }
     ensures ran { (T : Table) → StoredAs T table.now → Ran T budget result (take w mem.new) }

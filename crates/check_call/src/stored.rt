@@ -13,8 +13,8 @@ use reaching::reach::Facts;
 use reaching::row_cells::ErrorRows;
 use store::rows::{RowCounts, RowLists};
 
-// The header, how many rows each list has, and the rows as the table reader leaves them. That they are some table's stands in the `requires` here and
-// above: a ghost field is a mere proposition, and `run` and `judge` ask for the table itself; and the `ensures` speak of which it is.
+// The header, how many rows each list has, and the rows as the table reader leaves them. That they are some table's stands in `requires`, here of
+// `plan`, `facts` and `errors`: a ghost field is a mere proposition, and `run` and `judge` ask for the table itself; the `ensures` say which it is.
 #[derive(Clone, Copy)]
 pub struct StoredTable<'a> {
     pub header: Header,

@@ -15,7 +15,7 @@ use findings::find::find;
 use store::marks::clear_first;
 
 // Marks the claimed facts in the first w bytes of a memory.
-// w is a number, here and below: the `Claim` of claim_reader is private. The memory is of any length, and what is past w is promised to stay.
+// w is a number: the `Claim` of claim_reader is private. Here and below it is what the caller has just compared with the memory.
 fn mark_in(claim: &[u8], w: usize, mem: &mut [u8])
     requires { IsClaim w claim.now × (w ≤ most_facts) × (w ≤ length mem.old) }
     ensures { MarkedFirst w (positions_of (claim_at w claim.now)) mem.old mem.new }

@@ -123,7 +123,7 @@ pub fn read_claim(src: &[u8], w: usize) -> Result<usize, Refusal>
 
 // Marks the positions of a claim that reads well, in a memory of w bytes: afterwards a byte is 1 if its position is claimed, else 0, whatever it
 // was before.
-// w stands beside the memory, whose length it is: it is the w of `read_claim`, of which `IsClaim` speaks.
+// w stands beside the memory, whose length it is: the function is public, and its contract is of the w of `read_claim`, by `IsClaim w` and `Marks w`.
 pub fn mark_claim(src: &[u8], w: usize, mem: &mut [u8])
     requires { IsClaim w src.now × (w ≤ most_facts) × (room mem.old ≡ w) }
     ensures { Marks w (positions_of (claim_at w src.now)) mem.new }

@@ -23,7 +23,7 @@ fn w_of_table(table: &[u8]) -> usize
 
 // Writes the claim of the facts that a finished check leaves marked in the first w bytes of a memory; or, where the space is too short for it, clears
 // these bytes.
-// w stands beside the memory, which is of any length: what is past w stays. It is a number: who calls has the W of the table.
+// w stands beside the memory and no `MarkedFacts` in their place: that lends the memory for reading alone, and here it may be cleared.
 fn write_marked(
     mem: &mut [u8],
     w: usize,

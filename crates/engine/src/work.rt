@@ -30,7 +30,7 @@ fn take_turns(sweep: &mut Sweep, rows: &RowLists)
         stretch: 0,
         before: sweep.pass.left,
     });
-    // A loop that goes on as the turns say; it counts nothing.
+    // A loop that goes on as the turns say: a stretch may have its turn again or be passed over, so no range counts them.
     while let Some(turn) = next {
         let had = sweep.pass.left;
         let (t, a) = thread_and_pair(s, turn.stretch);

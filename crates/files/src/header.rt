@@ -98,7 +98,7 @@ fn local_columns(z: Sizes) -> [Column; 5]
 }
 
 // The sizes in the first four cells of a row.
-// A function: `From` would have to be for a type of this crate, and neither is.
+// A function and no `From`: neither `Sizes` nor an array is a type of this crate.
 fn sizes_of(cells: [u8; 5]) -> Sizes
     ensures { result ≡ sizes_of cells }
 {

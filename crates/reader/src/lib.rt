@@ -1,6 +1,7 @@
 // A reader keeps a file and its place together as one thing, and moves on only past whole numbers (document 01, "Numbers").
 // Its methods are thin: each calls a function on the bytes and the place. Whoever has bytes and a place calls `number_at` and `end_at`, which make a
-// reader and read through it. The crates above take bytes and a place too: `number_at`, `row_at` and `list_at` of specs/ are of these.
+// reader and read through it. Above, `row_through` of cells alone is lent a reader: the others take bytes and a place, as `row_at` and `list_at` of
+// their specs/ do.
 #![tactic(auto)]
 
 ghost use Rattle.std.specs.Prelude.{◌≡◌};

@@ -27,7 +27,8 @@ fn step(sweep: &mut Sweep, t: usize, a: usize, r: Row)
 }
 
 // Rule 4 for one row, if it is a row of t.
-// Twin of `row` in `passes`, which is private there: the two crates stand side by side, and neither calls the other.
+// Beside `row` of passes, which is generic over rules of rows as bytes: its contract is of `StepRowUse`, rule 4's own words, and one function of four
+// lines for both would stand in a third crate, no plainer.
 fn step_row(sweep: &mut Sweep, t: usize, a: usize, r: Row)
     requires { (t < sweep.old.plan.n) × (a < sweep.old.plan.k) × RowIn sweep.old.plan sweep.old.plan.g sweep.old.plan.l r }
     ensures { Did (StepRowUse sweep.old.plan t a r) sweep.old sweep.new }

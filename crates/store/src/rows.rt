@@ -23,9 +23,9 @@ pub struct RowCounts {
     pub pops: usize,
 }
 
-// A table's rows, lent: how many there are of each kind, and their bytes. The numbers stand beside the slices: the lent memory is of fixed size and
-// longer than the rows, and `RowsOf` of engine and `Laid` of check_call speak of both; as a length over five it is no plainer. The rows stay bytes: only
-// step rows are unpacked, once, since rule 4 walks them for each fact.
+// A table's rows, lent: how many there are of each kind, and their bytes. The numbers stand beside the slices: the lent memory is of fixed size, however
+// many rows there are, and `RowsOf` of engine speaks of both; as a length over five a number is no plainer. The rows stay bytes; step rows alone are
+// unpacked beforehand, into a list, as document 01 asks of them.
 #[derive(Clone, Copy)]
 pub struct RowLists<'a> {
     pub counts: RowCounts,

@@ -8,8 +8,8 @@ use store::marks::{has, lacks, put_mark};
 
 // What a pass carries. A pass that looks: the smallest position found lacking. A pass that puts: how many marks may still be put until there
 // are more than the budget. Where none is left, nothing is done any more. One struct for both kinds, `best` = w where none lacks, and `put` beside it: the
-// definitions `Puts`, `Looked` and `Swept` of specs/Passing speak of one Pass of these two numbers and of the flag, and the theorems of engine cite
-// them, as lemmas of passes and steps do.
+// definitions `Puts` and `Looked` of specs/Passing speak of a Pass before and after, and `Swept` of the flag too; engine's definitions and lemmas name
+// them, and lemmas of passes and steps name `Swept`.
 #[derive(Clone, Copy)]
 pub struct Pass {
     pub best: usize,

@@ -7,7 +7,7 @@ use positions::plan::Plan;
 use store::marks::{has, some};
 
 // The plan, the memory, whether marks are put or looked at, and what the pass carries. Its users' `requires` bound a thread t by n, a pair a by k, a
-// shared store by g, and the k places of a stretch by w, and name the rows that are in range: these are numbers within the sizes of the sweep's own
+// shared store by g, a frame by f, and the k places of a stretch by w, and name the rows that are in range: these are numbers within the sizes of the sweep's own
 // plan, and rows of it; a type for them would have to carry the plan too.
 #[derive(Drop)]
 pub struct Sweep<'a> {
