@@ -12,7 +12,6 @@ use reader::Reader;
 use reader::fields::ranged;
 
 // A row that is refused.
-// No crate here calls it, since `?` does what it does. It stands for its theorem, `Unique.no_row_fixes`, which docs/CONTRACTS.md names.
 pub fn no_row(refusal: Refusal) -> Result<Part<[u8; 5]>, Refusal>
     ensures { result ≡ part_of (bad refusal) }
 {
@@ -61,7 +60,6 @@ pub fn row(src: &[u8], at: usize, columns: [Column; 5]) -> Result<Part<[u8; 5]>,
 }
 
 // The row after a part of the file: where that was refused, so is the row.
-// No crate here calls it, since `?` does what it does. It stands for its theorem, `Unique.row_after_fixes`, which docs/CONTRACTS.md names.
 pub fn row_after(
     src: &[u8],
     before: Result<usize, Refusal>,

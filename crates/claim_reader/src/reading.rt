@@ -11,7 +11,7 @@ ghost use Rattle.claim_reader.specs.Marks.{Marks};
 
 use numbers::reading::Part;
 use numbers::refusals::Refusal;
-use reader::end_at;
+use reader::ends::end_after;
 use reader::fields::{field, version};
 use store::marks::{clear_first, put_mark};
 
@@ -117,7 +117,7 @@ pub fn read_claim(src: &[u8], w: usize) -> Result<usize, Refusal>
     let claim = Claim { src, w: w as u32 };
     let count = claim.count()?;
     let end = claim.positions(count)?;
-    end_at(src, end)?;
+    end_after(src, Ok(end))?;
     Ok(count.value as usize)
 }
 

@@ -5,7 +5,7 @@ ghost use Rattle.files.specs.Table.{w_of};
 ghost use Rattle.files.specs.Header.{size_columns, place_columns, local_columns, header_at, sizes_of};
 
 use cells::columns::{Column, Sizes};
-use cells::row::row;
+use cells::row::row_after;
 use numbers::reading::Part;
 use numbers::refusals::Refusal;
 use reader::fields::version;
@@ -116,10 +116,10 @@ pub fn read_header(src: &[u8]) -> Result<Part<Header>, Refusal>
     ensures { result ≡ part_of (header_at src.now) }
 {
     let version = version(src)?;
-    let first = row(src, version.next, size_columns())?;
+    let first = row_after(src, Ok(version.next), size_columns())?;
     let sizes = sizes_of(first.value);
-    let second = row(src, first.next, place_columns(sizes))?;
-    let third = row(src, second.next, local_columns(sizes))?;
+    let second = row_after(src, Ok(first.next), place_columns(sizes))?;
+    let third = row_after(src, Ok(second.next), local_columns(sizes))?;
     let [failed, start, _, _, _] = second.value;
     let [a, b, c, d, _] = third.value;
     let header = Header {

@@ -6,9 +6,9 @@ ghost use Rattle.files.specs.File.{TableIs};
 ghost use Rattle.files.specs.Stages.{parts_at, PartsKept};
 
 use crate::header::{Header, read_header};
-use lists::list::{find_at, keep_at};
+use lists::list::{find_list, keep_list};
 use numbers::refusals::Refusal;
-use reader::end_at;
+use reader::ends::end_after;
 
 // How many rows each list may have.
 const MOST_STEPS: u16 = 1024;
@@ -90,11 +90,11 @@ fn find_parts(src: &[u8]) -> Result<Parts, Refusal>
 {
     let top = read_header(src)?;
     let sizes = top.value.sizes;
-    let steps = find_at(src, top.next, MOST_STEPS, sizes.step_columns())?;
-    let pushes = find_at(src, steps.next, MOST_PUSHES, sizes.push_columns())?;
-    let pops = find_at(src, pushes.next, MOST_POPS, sizes.pop_columns())?;
-    let errors = find_at(src, pops.next, MOST_ERRORS, sizes.error_columns())?;
-    end_at(src, errors.next)?;
+    let steps = find_list(src, Ok(top.next), MOST_STEPS, sizes.step_columns())?;
+    let pushes = find_list(src, Ok(steps.next), MOST_PUSHES, sizes.push_columns())?;
+    let pops = find_list(src, Ok(pushes.next), MOST_POPS, sizes.pop_columns())?;
+    let errors = find_list(src, Ok(pops.next), MOST_ERRORS, sizes.error_columns())?;
+    end_after(src, Ok(errors.next))?;
     let counts = Counts {
         steps: steps.value,
         pushes: pushes.value,
@@ -117,30 +117,30 @@ fn keep_parts(src: &[u8], parts: Parts, rows: &mut TableRows)
     ensures { PartsKept src.now parts rows.old rows.new }
 {
     let sizes = parts.header.sizes;
-    keep_at(
+    keep_list(
         src,
-        parts.steps,
+        Ok(parts.steps),
         MOST_STEPS,
         sizes.step_columns(),
         &mut rows.steps,
     );
-    keep_at(
+    keep_list(
         src,
-        parts.pushes,
+        Ok(parts.pushes),
         MOST_PUSHES,
         sizes.push_columns(),
         &mut rows.pushes,
     );
-    keep_at(
+    keep_list(
         src,
-        parts.pops,
+        Ok(parts.pops),
         MOST_POPS,
         sizes.pop_columns(),
         &mut rows.pops,
     );
-    keep_at(
+    keep_list(
         src,
-        parts.errors,
+        Ok(parts.errors),
         MOST_ERRORS,
         sizes.error_columns(),
         &mut rows.errors,

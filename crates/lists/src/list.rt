@@ -9,7 +9,7 @@ ghost use Rattle.lists.specs.Keeping.{Found, FoundByte, CellKept, RowKept, list_
 ghost use Rattle.lists.specs.Stages.{old_of};
 
 use cells::columns::Column;
-use cells::row::row;
+use cells::row::{no_row, row};
 use numbers::reading::Part;
 use numbers::refusals::Refusal;
 use reader::fields::field;
@@ -25,7 +25,7 @@ fn next_row(
 {
     let row = row(src, at, columns)?;
     match before {
-        Some(old) if row.value <= old => Err(Refusal::NotAbove { at }),
+        Some(old) if row.value <= old => no_row(Refusal::NotAbove { at }),
         _ => Ok(row),
     }
 }
@@ -64,7 +64,6 @@ pub fn find_at(
 }
 
 // The list of at most `most` rows after a part of the file: where that was refused, so is the list.
-// No crate here calls it, since `?` does what it does. It stands for its theorem, `Unique.find_list_fixes`, which docs/CONTRACTS.md names.
 pub fn find_list(
     src: &[u8],
     before: Result<usize, Refusal>,
@@ -141,7 +140,6 @@ pub fn keep_at(src: &[u8], at: usize, most: u16, columns: [Column; 5], dst: &mut
 }
 
 // The list after a part of the file, which was found, into dst: its rows from the start on, five bytes a row.
-// No crate here calls it, since callers have the place. It stands for its theorem, `Unique.keep_list_fixes`, which docs/CONTRACTS.md names.
 pub fn keep_list(
     src: &[u8],
     before: Result<usize, Refusal>,

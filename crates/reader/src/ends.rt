@@ -17,7 +17,6 @@ pub(crate) fn ended(left: usize, place: usize) -> Result<usize, Refusal>
 }
 
 // The end of the file, which is to follow a part of it: the place past that, or why it was refused.
-// No crate here calls it, since `?` does what it does. It stands for its theorem, `Unique.end_after_fixes`, which docs/CONTRACTS.md names.
 pub fn end_after(src: &[u8], before: Result<usize, Refusal>) -> Result<usize, Refusal>
     ensures { result ≡ end_after before src.now }
 {

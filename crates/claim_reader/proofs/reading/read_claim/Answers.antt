@@ -19,17 +19,17 @@ returns-in_err-end c =
     let positions = end_refused _ _ (sym c.positions.ensures ∙ c.in_err-end.was) in
     rw (exit.1, exit.2) (sym (ap claimed_of (claim_counted _ _ count ∙ rest_refused _ _ _ _ positions)))
 
-pub returns-in_err-end_at : goal.returns-in_err-end_at
-returns-in_err-end_at c =
-    let exit = err_from_is_err_and c.from_residual-in_err-end_at.result c.from_residual-in_err-end_at.ensures.1 in
+pub returns-in_err-end_after : goal.returns-in_err-end_after
+returns-in_err-end_after c =
+    let exit = err_from_is_err_and c.from_residual-in_err-end_after.result c.from_residual-in_err-end_after.ensures.1 in
     let count = part_got _ (sym c.in_ok-count.was ∙ c.count.ensures) in
     let positions = (end_past _ _ (sym c.positions.ensures ∙ c.in_ok-end.was)).1 in
-    let more = end_refused _ _ (sym c.end_at.ensures ∙ c.in_err-end_at.was) in
+    let more = end_refused _ _ (sym c.end_after.ensures ∙ c.in_err-end_after.was) in
     rw (exit.1, exit.2) (sym (ap claimed_of (claim_counted _ _ count ∙ rest_more _ _ _ _ positions more)))
 
 pub returns : goal.returns
 returns c =
     let count = part_got _ (sym c.in_ok-count.was ∙ c.count.ensures) in
     let positions = (end_past _ _ (sym c.positions.ensures ∙ c.in_ok-end.was)).1 in
-    let ended = (end_past _ _ (sym c.end_at.ensures ∙ c.in_ok-end_at.was)).1 in
+    let ended = (end_past _ _ (sym c.end_after.ensures ∙ c.in_ok-end_after.was)).1 in
     rest_read _ _ _ _ positions ended ∙ sym (ap claimed_of (claim_counted _ _ count))

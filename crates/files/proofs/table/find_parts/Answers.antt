@@ -18,7 +18,7 @@ unfolding parts_at
 returns-in_err-steps c =
     let exit = err_from_is_err_and c.from_residual-in_err-steps.result c.from_residual-in_err-steps.ensures.1 in
     let top = part_got _ (sym c.in_ok-top.was ∙ c.read_header.ensures) in
-    let steps = list_refused _ (sym c.in_err-steps.was ∙ rw (c.step_columns.ensures) at c.find_at.ensures) in
+    let steps = list_refused _ (sym c.in_err-steps.was ∙ rw (c.step_columns.ensures) at c.find_list.ensures) in
     rw (exit.1, exit.2, top, steps)
 
 pub returns-in_err-pushes : goal.returns-in_err-pushes
@@ -26,8 +26,8 @@ unfolding parts_at
 returns-in_err-pushes c =
     let exit = err_from_is_err_and c.from_residual-in_err-pushes.result c.from_residual-in_err-pushes.ensures.1 in
     let top = part_got _ (sym c.in_ok-top.was ∙ c.read_header.ensures) in
-    let (steps, steps_found, steps_many) = list_found _ (sym c.in_ok-steps.was ∙ rw (c.step_columns.ensures) at c.find_at.ensures) in
-    let pushes = list_refused _ (sym c.in_err-pushes.was ∙ rw (c.push_columns.ensures) at c.find_at-2.ensures) in
+    let (steps, steps_found, steps_many) = list_found _ (sym c.in_ok-steps.was ∙ rw (c.step_columns.ensures) at c.find_list.ensures) in
+    let pushes = list_refused _ (sym c.in_err-pushes.was ∙ rw (c.push_columns.ensures) at c.find_list-2.ensures) in
     rw (exit.1, exit.2, top, steps_found, pushes)
 
 pub returns-in_err-pops : goal.returns-in_err-pops
@@ -35,9 +35,9 @@ unfolding parts_at
 returns-in_err-pops c =
     let exit = err_from_is_err_and c.from_residual-in_err-pops.result c.from_residual-in_err-pops.ensures.1 in
     let top = part_got _ (sym c.in_ok-top.was ∙ c.read_header.ensures) in
-    let (steps, steps_found, steps_many) = list_found _ (sym c.in_ok-steps.was ∙ rw (c.step_columns.ensures) at c.find_at.ensures) in
-    let (pushes, pushes_found, pushes_many) = list_found _ (sym c.in_ok-pushes.was ∙ rw (c.push_columns.ensures) at c.find_at-2.ensures) in
-    let pops = list_refused _ (sym c.in_err-pops.was ∙ rw (c.pop_columns.ensures) at c.find_at-3.ensures) in
+    let (steps, steps_found, steps_many) = list_found _ (sym c.in_ok-steps.was ∙ rw (c.step_columns.ensures) at c.find_list.ensures) in
+    let (pushes, pushes_found, pushes_many) = list_found _ (sym c.in_ok-pushes.was ∙ rw (c.push_columns.ensures) at c.find_list-2.ensures) in
+    let pops = list_refused _ (sym c.in_err-pops.was ∙ rw (c.pop_columns.ensures) at c.find_list-3.ensures) in
     rw (exit.1, exit.2, top, steps_found, pushes_found, pops)
 
 pub returns-in_err-errors : goal.returns-in_err-errors
@@ -45,31 +45,31 @@ unfolding parts_at
 returns-in_err-errors c =
     let exit = err_from_is_err_and c.from_residual-in_err-errors.result c.from_residual-in_err-errors.ensures.1 in
     let top = part_got _ (sym c.in_ok-top.was ∙ c.read_header.ensures) in
-    let (steps, steps_found, steps_many) = list_found _ (sym c.in_ok-steps.was ∙ rw (c.step_columns.ensures) at c.find_at.ensures) in
-    let (pushes, pushes_found, pushes_many) = list_found _ (sym c.in_ok-pushes.was ∙ rw (c.push_columns.ensures) at c.find_at-2.ensures) in
-    let (pops, pops_found, pops_many) = list_found _ (sym c.in_ok-pops.was ∙ rw (c.pop_columns.ensures) at c.find_at-3.ensures) in
-    let errors = list_refused _ (sym c.in_err-errors.was ∙ rw (c.error_columns.ensures) at c.find_at-4.ensures) in
+    let (steps, steps_found, steps_many) = list_found _ (sym c.in_ok-steps.was ∙ rw (c.step_columns.ensures) at c.find_list.ensures) in
+    let (pushes, pushes_found, pushes_many) = list_found _ (sym c.in_ok-pushes.was ∙ rw (c.push_columns.ensures) at c.find_list-2.ensures) in
+    let (pops, pops_found, pops_many) = list_found _ (sym c.in_ok-pops.was ∙ rw (c.pop_columns.ensures) at c.find_list-3.ensures) in
+    let errors = list_refused _ (sym c.in_err-errors.was ∙ rw (c.error_columns.ensures) at c.find_list-4.ensures) in
     rw (exit.1, exit.2, top, steps_found, pushes_found, pops_found, errors)
 
-pub returns-in_err-end_at : goal.returns-in_err-end_at
+pub returns-in_err-end_after : goal.returns-in_err-end_after
 unfolding parts_at
-returns-in_err-end_at c =
-    let exit = err_from_is_err_and c.from_residual-in_err-end_at.result c.from_residual-in_err-end_at.ensures.1 in
+returns-in_err-end_after c =
+    let exit = err_from_is_err_and c.from_residual-in_err-end_after.result c.from_residual-in_err-end_after.ensures.1 in
     let top = part_got _ (sym c.in_ok-top.was ∙ c.read_header.ensures) in
-    let (steps, steps_found, steps_many) = list_found _ (sym c.in_ok-steps.was ∙ rw (c.step_columns.ensures) at c.find_at.ensures) in
-    let (pushes, pushes_found, pushes_many) = list_found _ (sym c.in_ok-pushes.was ∙ rw (c.push_columns.ensures) at c.find_at-2.ensures) in
-    let (pops, pops_found, pops_many) = list_found _ (sym c.in_ok-pops.was ∙ rw (c.pop_columns.ensures) at c.find_at-3.ensures) in
-    let (errors, errors_found, errors_many) = list_found _ (sym c.in_ok-errors.was ∙ rw (c.error_columns.ensures) at c.find_at-4.ensures) in
-    let more = end_refused _ _ (sym c.end_at.ensures ∙ c.in_err-end_at.was) in
+    let (steps, steps_found, steps_many) = list_found _ (sym c.in_ok-steps.was ∙ rw (c.step_columns.ensures) at c.find_list.ensures) in
+    let (pushes, pushes_found, pushes_many) = list_found _ (sym c.in_ok-pushes.was ∙ rw (c.push_columns.ensures) at c.find_list-2.ensures) in
+    let (pops, pops_found, pops_many) = list_found _ (sym c.in_ok-pops.was ∙ rw (c.pop_columns.ensures) at c.find_list-3.ensures) in
+    let (errors, errors_found, errors_many) = list_found _ (sym c.in_ok-errors.was ∙ rw (c.error_columns.ensures) at c.find_list-4.ensures) in
+    let more = end_refused _ _ (sym c.end_after.ensures ∙ c.in_err-end_after.was) in
     rw (exit.1, exit.2, top, steps_found, pushes_found, pops_found, errors_found, goes_on_for (tt {0}) _ _ _ more)
 
 pub returns : goal.returns
 unfolding parts_at
 returns c =
     let top = part_got _ (sym c.in_ok-top.was ∙ c.read_header.ensures) in
-    let (steps, steps_found, steps_many) = list_found _ (sym c.in_ok-steps.was ∙ rw (c.step_columns.ensures) at c.find_at.ensures) in
-    let (pushes, pushes_found, pushes_many) = list_found _ (sym c.in_ok-pushes.was ∙ rw (c.push_columns.ensures) at c.find_at-2.ensures) in
-    let (pops, pops_found, pops_many) = list_found _ (sym c.in_ok-pops.was ∙ rw (c.pop_columns.ensures) at c.find_at-3.ensures) in
-    let (errors, errors_found, errors_many) = list_found _ (sym c.in_ok-errors.was ∙ rw (c.error_columns.ensures) at c.find_at-4.ensures) in
-    let (_, ended) = end_past _ _ (sym c.end_at.ensures ∙ c.in_ok-end_at.was) in
+    let (steps, steps_found, steps_many) = list_found _ (sym c.in_ok-steps.was ∙ rw (c.step_columns.ensures) at c.find_list.ensures) in
+    let (pushes, pushes_found, pushes_many) = list_found _ (sym c.in_ok-pushes.was ∙ rw (c.push_columns.ensures) at c.find_list-2.ensures) in
+    let (pops, pops_found, pops_many) = list_found _ (sym c.in_ok-pops.was ∙ rw (c.pop_columns.ensures) at c.find_list-3.ensures) in
+    let (errors, errors_found, errors_many) = list_found _ (sym c.in_ok-errors.was ∙ rw (c.error_columns.ensures) at c.find_list-4.ensures) in
+    let (_, ended) = end_past _ _ (sym c.end_after.ensures ∙ c.in_ok-end_after.was) in
     rw (top, steps_found, pushes_found, pops_found, errors_found, ends_for (tt {0}) _ _ _ ended, steps_many, pushes_many, pops_many, errors_many)

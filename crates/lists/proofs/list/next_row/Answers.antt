@@ -17,7 +17,7 @@ returns-in_err-row c =
 pub returns-in-Some : goal.returns-in-Some
 returns-in-Some c =
     let row = part_got (row_at _ _ _) (sym c.in_ok-row.was ∙ c.row.ensures) in
-    rw (c.in-Some.is) (sym (ap part_of (next_no _ _ _ _ row (at_most _ _ (rw (c.in-Some.old-is) at c.le.ensures) c.if-le.true))))
+    rw (c.no_row.ensures, c.in-Some.is) (sym (ap part_of (next_no _ _ _ _ row (at_most _ _ (rw (c.in-Some.old-is) at c.le.ensures) c.if-le.true))))
 
 pub returns-in_default : goal.returns-in_default
 returns-in_default c =
