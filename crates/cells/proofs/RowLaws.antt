@@ -136,6 +136,10 @@ pub record Filling (cs : List Column) (r₀ : Reader) (cells : List ℕ) (r : Re
   pub held : cells ≡ sets no_cells 0 done
 
 module _ {cs : List Column} {r₀ : Reader} where
+  pub fill_start : length cs ≡ 5 → Filling cs r₀ no_cells r₀ 0
+  fill_start five =
+      record { five = five; done = []; many = refl; up = omega arith; same = onward_none _; moved = refl; held = refl }
+
   module _ {cells : List ℕ} {r : Reader} {j : ℕ} (f : Filling cs r₀ cells r j) where
     module _ (h : j < 5) where
       pub next_column : drop j cs ≡ column_at cs j ∷ drop (suc j) cs

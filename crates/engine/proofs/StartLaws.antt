@@ -15,7 +15,7 @@ use Rattle.model.specs.Memory.{Marked}
 use Rattle.model.proofs.Positions.{pos_lt}
 use Rattle.store.specs.Marking.{room, Has, marked, Clear}
 use Rattle.positions.specs.Plans.{Plan, plan_of}
-use Rattle.store.proofs.MarkLaws.{has_put, has_kept, has_before, clear_none, clear_bits, clear_total, marked_has, has_marked}
+use Rattle.store.proofs.MarkLaws.{put_room, has_put, has_kept, has_before, clear_none, clear_bits, clear_total, marked_has, has_marked}
 use Rattle.positions.proofs.PlanIsModel.{pos_p}
 use Rattle.engine.specs.Given.{StartOf}
 use Rattle.engine.specs.StartFacts.{start_at}
@@ -32,6 +32,11 @@ module _ (s : Plan) (g : ℕ) (locals : List ℕ) where
       → m₂ ≡ marked m₁ p → m₂ ≡ begun s g locals (t + 1) m
   unfolding begun
   begun_next t m {m₁} e h k = rw add-one (k ∙ ap (marked m₁) e ∙ ap (λ z. marked z (start_at s g locals t)) h)
+
+  pub begun_room : (t : ℕ) (m : List ℕ) → room (begun s g locals t m) ≡ room m
+  unfolding begun
+  begun_room zero m = refl
+  begun_room (suc t) m = put_room (begun s g locals t m) (start_at s g locals t) ∙ begun_room t m
 
 module _ {T : Table} (sound : Sound T) {g₀ : ℕ} {locals : List ℕ} (of : StartOf T g₀ locals) where
   abbrev K : ℕ

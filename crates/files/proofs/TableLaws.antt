@@ -1,6 +1,7 @@
 -- What is known of a table that was read.
 --     table_got      its header and its four lists were read, one after the other, up to the end of the file
 --     table_sound    every number is in its range, no list is too long, and rows ascend
+--     four_numbers   four local stores are a list of their numbers
 --     header_back    its header is the one that was read
 --     cell_stands    cell j of row i stands at byte 5 * i + j of its list's memory
 use mathlib.Core.Path.{◌≡◌, refl, sym, ap, ◌∙◌}
@@ -211,6 +212,15 @@ table_sound s t next e =
     (sound g.header (header_fits s g.header g.p₀ g.header_was) g.steps g.pushes g.pops g.errors
     (list_good _ _ _ _ _ _ g.steps_were) (list_good _ _ _ _ _ _ g.pushes_were)
     (list_good _ _ _ _ _ _ g.pops_were) (list_good _ _ _ _ _ _ g.errors_were))
+
+-- a list of four is its numbers
+pub four_numbers : (xs : List ℕ) → length xs ≡ 4 → four_of xs ≡ xs
+four_numbers [] e = absurd (omega arith)
+four_numbers (a ∷ []) e = absurd (omega arith)
+four_numbers (a ∷ b ∷ []) e = absurd (omega arith)
+four_numbers (a ∷ b ∷ c ∷ []) e = absurd (omega arith)
+four_numbers (a ∷ b ∷ c ∷ d ∷ []) e = refl
+four_numbers (a ∷ b ∷ c ∷ d ∷ x ∷ xs) e = absurd (omega arith)
 
 -- the table's header is the one that was read
 four_back : (n : ℕ) (xs : List ℕ) → length xs ≡ 4 → ((t : ℕ) → n ≤ t → get_or xs t 0 ≡ 0) → four_of (take n xs) ≡ xs

@@ -21,7 +21,7 @@ use Rattle.cells.specs.declared.columns.Column.{Column}
 use Rattle.cells.specs.declared.columns.Column.TheVariants.{Within, Below, Absent}
 use Rattle.cells.specs.Rows.{cell_at, row_at}
 use Rattle.cells.specs.Columns.{range_of}
-use Rattle.cells.proofs.RowLaws.{column_at, range_some, onward, onward_push, row_step, row_none, drop_column}
+use Rattle.cells.proofs.RowLaws.{column_at, range_some, onward, onward_none, onward_push, row_step, row_none, drop_column}
 use Rattle.cells.proofs.RowFits.{pushed}
 use Rattle.lists.specs.Keeping.{Found, FoundByte, CellKept, RowKept}
 
@@ -94,6 +94,9 @@ pub record Midway (cs : List Column) (s : List ℕ) (at base : ℕ) (d₀ d : Li
   pub held : d ≡ sets d₀ base done
 
 module _ {cs : List Column} {s : List ℕ} {at base : ℕ} {d₀ : List ℕ} where
+  pub mid_start : length cs ≡ 5 → Found (row_at cs s at) → Midway cs s at base d₀ d₀ at 0
+  mid_start five f = record { five = five; done = []; many = refl; found = f; same = onward_none _; held = refl }
+
   module _ {d : List ℕ} {p j : ℕ} (m : Midway cs s at base d₀ d p j) where
     pub mid_long : length d ≡ length d₀
     mid_long = ap length m.held ∙ length-sets d₀ base m.done

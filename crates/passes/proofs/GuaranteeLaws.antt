@@ -1,7 +1,7 @@
 -- Rules 2 and 3. Their test whether facts of a stretch end at a shared store. And
 -- their uses: of the guarantees from one shared store to another, one that acts stands for all.
 use mathlib.Core.Path.{◌≡◌, refl, subst}
-use mathlib.Core.Bool.{Bool}
+use mathlib.Core.Bool.{Bool, true, false}
 use mathlib.Core.List.{List}
 use Prim.Native.Nat.{ℕ, ◌+◌, ◌*◌, ◌-◌}
 use native.Mathlib.Omega.{arith}
@@ -14,6 +14,11 @@ use Rattle.uses.specs.Passing.{Swept}
 use Rattle.uses.specs.RuleUses.{MovedTo}
 use Rattle.passes.specs.Acting.{Acts}
 use Rattle.uses.proofs.PassLaws.{swept_more, swept_idle, swept_with, swept_under, flat_line, flat_under}
+
+-- a test, where something else holds
+pub is_and : {A : Type 0} (B : Type 0) (r : Bool) → A → Is B r → Is (A × B) r
+is_and B true a b = (a, b)
+is_and B false a n = λ p. n p.1
 
 -- there is a next mark if there is one among the places before the end
 pub next_some : (m : List ℕ) (x n : ℕ) (o : Option ℕ) → NextMark m x (x + n) o → Is (SomeIn m x n) (is_some o)

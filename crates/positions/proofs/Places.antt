@@ -59,6 +59,9 @@ module _ {s : Plan} (h : Planned s) where
       let e : t * s.g + g ≤ 80 = omega (arith, h.g_max) in
       (d, mul-le-mul {n₁ = t * s.g + g} {n₂ = 80} {m₂ = 16} e h.g_max)
 
+  pub ck_small : {c : ℕ} → c < s.k → c * s.k ≤ 65536
+  ck_small {c} a = mul-le-mul {n₁ = c} {n₂ = 256} {m₂ = 256} (omega (arith, h.k_max)) h.k_max
+
   -- the pairs of one shared store
   pub cut : (m : ℕ) → m < s.g → m * s.l + s.l ≤ s.k
   cut m a = omega (arith, mul-le-mul_right s.l a, h.k)

@@ -2,6 +2,7 @@
 --     ended_left               bytes that are left at a place are bytes after the end there
 --     end_past, end_refused    what an end tells of what was read
 --     ends_for, goes_on_for    whether the file ends is the same whatever is at the end
+--     end_after_lem            the end of the file after a part is where the whole ends that is made of the part
 --     end_looks                whether the file ends looks at one byte
 use mathlib.Core.Path.{◌≡◌, refl}
 use mathlib.Core.List.{List}
@@ -15,11 +16,11 @@ use lib.Seq.{length-take-le}
 use lib.Dec.{ltb}
 use Rattle.numbers.specs.declared.refusals.Refusal.{Refusal}
 use Rattle.numbers.specs.declared.refusals.Refusal.TheVariants.{After}
-use Rattle.numbers.specs.Reading.{Out, got, bad, pick}
+use Rattle.numbers.specs.Reading.{Out, got, bad, then, pick}
 use Rattle.numbers.proofs.ReadingLaws.{never}
 use Rattle.numbers.proofs.Looks.{Looks, cut_same}
 use Rattle.reader.specs.Places.{left_from}
-use Rattle.reader.specs.Ends.{at_end, end_of}
+use Rattle.reader.specs.Ends.{at_end, end_of, end_after}
 use Rattle.reader.specs.Ended.{ended_of}
 
 module _ (s : List ℕ) (at : ℕ) where
@@ -55,6 +56,15 @@ module _ {A B : Type 0} (a : A) (b : B) (s : List ℕ) (p : ℕ) where
 
   pub goes_on_for : {x : Refusal} → at_end a s p ≡ bad x → at_end b s p ≡ bad x
   goes_on_for e = by_more (ltb p (length s)) e
+
+-- what is at the end does not matter for where it is
+end_same : {A B : Type 0} (a : A) (b : B) (p : ℕ) (t : Bool) → end_of (pick t (bad (After p)) (got a p)) ≡ end_of (pick t (bad (After p)) (got b p))
+end_same a b p true = refl
+end_same a b p false = refl
+
+pub end_after_lem : {A B : Type 0} (s : List ℕ) (o : Out A) (f : A → B) → end_after (end_of o) s ≡ end_of (then o λ a p. at_end (f a) s p)
+end_after_lem s (got a p) f = end_same (tt {0}) (f a) p (ltb p (length s))
+end_after_lem s (bad r) f = refl
 
 -- ---- how far the end looks
 

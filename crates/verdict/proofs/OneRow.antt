@@ -53,7 +53,7 @@ pub record AimedAt (s : Plan) (failed : ℕ) (rows : List ℕ) (n : ℕ) (m : Li
   pub u_lt : u < s.n
   pub aimed : Aimed s failed rows m row g (Some u)
 
-aimed_lt : {s : Plan} {failed : ℕ} {rows m : List ℕ} {row g u : ℕ} → 0 < s.n → Aimed s failed rows m row g (Some u) → u < s.n
+pub aimed_lt : {s : Plan} {failed : ℕ} {rows m : List ℕ} {row g u : ℕ} → 0 < s.n → Aimed s failed rows m row g (Some u) → u < s.n
 aimed_lt p (no_failed z e q) = absurd (some_not_none q)
 aimed_lt p (picked k z fk h) = (picked_reaches h).0
 aimed_lt p (unfit i z c q) = absurd (some_not_none q)

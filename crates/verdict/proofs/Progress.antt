@@ -20,7 +20,7 @@ use Rattle.verdict.specs.ErrorRows.{ErrorsOf, Judged, Allowed, Smallest}
 use Rattle.reaching.specs.Reaching.{Reached, Choice, asked_cell}
 use Rattle.verdict.proofs.Lists.{≼-cons, get_or_zeros}
 use Rattle.verdict.proofs.LentIsTable.{threads, row_le, allows_reached}
-use Rattle.verdict.proofs.OneRow.{StoreFor, AimedAt, smallest_allowed, smallest_least}
+use Rattle.verdict.proofs.OneRow.{NoneAt, StoreFor, AimedAt, smallest_allowed, smallest_least}
 
 -- ---- what is passed
 
@@ -46,6 +46,16 @@ module _ {s : Plan} {failed : ℕ} {rows : List ℕ} {n : ℕ} {m : List ℕ} wh
         earlier = λ w l a. by_cases (dec_lt w.row row) (λ b. (h T of).earlier w b a)
             (λ b. (h T of).lower w (omega arith) (omega (arith, (allows_reached of a).shared)) a);
         lower = λ w e l. absurd (omega arith);
+      }
+
+  -- one shared store more
+  pub passed_shared : {row g : ℕ} → Passed s failed rows n m row g → ((T : Table) → ErrorsOf T s failed rows n → NoneAt T m row g)
+      → Passed s failed rows n m row (g + 1)
+  passed_shared {row} {g} h none T of =
+      record {
+        earlier = (h T of).earlier;
+        lower = λ w e l a. by_cases (dec_lt w.shared g) (λ b. (h T of).lower w e b a)
+            (λ b. none T of w.locals (allowed_at e (omega arith) a));
       }
 
   -- every row
