@@ -26,9 +26,11 @@ pub trait RowRule {
 }
 
 // The rule of push rows, rule 5.
+#[derive(Clone, Copy)]
 pub struct Push;
 
 // The rule of pop rows, rule 7.
+#[derive(Clone, Copy)]
 pub struct Pop;
 
 impl RowRule for Push {
