@@ -69,6 +69,9 @@ fn guarantees_from(sweep: &mut Sweep, t: usize, x: usize, from: usize)
 }
 
 // Rule 2 or 3 for the guarantees from each shared store: rule 2 if the stretch is one of P facts, else rule 3.
+// Inlined always: the sweep then stays in registers. By a call the plan and the pass are read and stored anew for each pair of shared stores, which takes
+// a third more time where the lines are short.
+#[inline(always)]
 pub fn guarantees(sweep: &mut Sweep, t: usize, x: usize)
     requires { x + sweep.old.plan.k ≤ sweep.old.plan.w }
     ensures { Did (Upto (MovedFrom sweep.old.plan t x) sweep.old.plan.g) sweep.old sweep.new }
