@@ -11,7 +11,7 @@ use store::marks::next_mark;
 use text::line::Line;
 
 // A fact that is listed: its line, and the position past it.
-#[derive(Drop)]
+#[derive(Clone, Copy)]
 pub struct ListedFact {
     pub line: Line,
     pub next: usize,
